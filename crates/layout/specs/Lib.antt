@@ -1,0 +1,9 @@
+pub mod Layout
+pub mod Cells
+pub mod Text
+pub mod Walk
+pub mod Reading
+pub mod Refusals
+pub mod Cases
+pub mod Checking
+pub mod Laws
