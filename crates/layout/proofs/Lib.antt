@@ -1,1 +1,11 @@
+pub mod CheckLaw
+pub mod Count
+pub mod Found
+pub mod Hex
+pub mod Lawful
+pub mod Lines
+pub mod Natural
+pub mod ReadLaw
+pub mod SmallKinds
 pub mod Worked
+pub mod Written

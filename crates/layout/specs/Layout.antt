@@ -1,7 +1,7 @@
 -- The layout of a sheet as data: from the counts of a head, the lines that are due and their fields.
 use mathlib.Core.Bool.{Bool, true, false, cond}
 use mathlib.Core.List.{List, [], _∷_, _++_}
-use Prim.Native.Nat.{ℕ, zero, suc, _+_, _-_, _*_, _^_}
+use Prim.Native.Nat.{ℕ, zero, suc, _+_, _-_, _*_, _^_, _≤_, _<_}
 use lib.Dec.{eqb}
 use lib.IntN.{ℤ, pos, negsuc}
 use lib.ListN.{getD, take, replicate}
@@ -55,13 +55,36 @@ counts cells = record {
   rank-numbers = countOf (getD cells 12 (pos 0));
 }
 
+-- the ranges of a head's numbers
+pub record In-ranges (h : Counts) : Type 0 where
+  pub variables-low : 1 ≤ h .variables
+  pub variables-high : h .variables ≤ 6
+  pub places-low : 1 ≤ h .places
+  pub places-high : h .places ≤ 8
+  pub steps-low : 1 ≤ h .steps
+  pub steps-high : h .steps ≤ 16
+  pub propositions-high : h .propositions ≤ 8
+  pub states-low : 1 ≤ h .states
+  pub states-high : h .states ≤ 4
+  pub edges-low : 1 ≤ h .edges
+  pub edges-high : h .edges ≤ 12
+  pub start-rows-high : h .start-rows ≤ 4
+  pub guards-high : h .guards ≤ 4
+  pub region-rows-high : h .region-rows ≤ 4
+  pub start-place-high : h .start-place < h .places
+  pub start-state-high : h .start-state < h .states
+  pub form-low : 1 ≤ h .form
+  pub form-high : h .form ≤ 2
+  pub rank-numbers-low : 1 ≤ h .rank-numbers
+  pub rank-numbers-high : h .rank-numbers ≤ 2
+
 -- fields --------------------------------------------------------------------------------------
 
--- one below n, and −1 below 0
+-- one below a count, and −1 where it is none
 abbrev pub below : ℤ → ℤ
 below (pos zero) = negsuc 0
 below (pos (suc n)) = pos n
-below (negsuc n) = negsuc (suc n)
+below (negsuc n) = negsuc 0
 
 abbrev pub isZero : ℤ → Bool
 isZero (pos n) = eqb n 0
@@ -125,6 +148,17 @@ uniform kind field count = record { kind = kind; lead = unused ∷ unused ∷ un
 abbrev pub led : ℕ → Field → Field → ℕ → Frame
 led kind field rest count = record { kind = kind; lead = field ∷ unused ∷ unused ∷ unused ∷ []; leads = 1; rest = rest; count = count }
 
+abbrev pub state : Frame
+state = led 0x50 (short 0 1) unused 0
+
+-- a divisor and a multiplier for each hypothesis
+abbrev pub line : ℕ → ℕ → Frame
+line kind hypotheses = led kind divisor multiplier hypotheses
+
+-- n lines like f
+abbrev pub repeated : ℕ → Frame → Group
+repeated n f = record { times = n; first = f; firsts = 1; second = f; seconds = 0 }
+
 module _ (h : Counts) where
   abbrev pub row : ℕ → Frame
   row kind = uniform kind number (h .variables + 1)
@@ -151,9 +185,6 @@ module _ (h : Counts) where
     count = h .variables + 1;
   }
 
-  abbrev pub state : Frame
-  state = led 0x50 (short 0 1) unused 0
-
   -- from, to, must mask, must-not mask
   abbrev pub edge : Frame
   edge = record {
@@ -166,10 +197,6 @@ module _ (h : Counts) where
     rest = unused;
     count = 0;
   }
-
-  -- a divisor and a multiplier for each hypothesis
-  abbrev pub line : ℕ → ℕ → Frame
-  line kind hypotheses = led kind divisor multiplier hypotheses
 
   abbrev pub mode : ℕ → Frame
   mode kind = led kind (short 0 (h .rank-numbers)) unused 0
@@ -186,10 +213,6 @@ module _ (h : Counts) where
 
   -- groups -------------------------------------------------------------------------------------
 
-  -- n lines like f
-  abbrev pub repeated : ℕ → Frame → Group
-  repeated n f = record { times = n; first = f; firsts = 1; second = f; seconds = 0 }
-
   -- region rows and rank rows of a point: as many conclusions as a start has, and the fall rows besides for a move
   abbrev pub point-rows : ℕ
   point-rows = h .region-rows + h .rank-numbers
@@ -197,34 +220,45 @@ module _ (h : Counts) where
   abbrev pub conclusions : ℕ
   conclusions = h .region-rows + 2 * h .rank-numbers
 
-  abbrev pub program : List Group
-  program =
+  abbrev pub steps-group : Group
+  steps-group = record { times = h .steps; first = step; firsts = 1; second = row 0x31; seconds = h .guards }
+
+  abbrev pub points-group : Group
+  points-group = record { times = h .places * h .states; first = row 0x60; firsts = h .region-rows; second = row 0x61; seconds = h .rank-numbers }
+
+  -- every-run form: the mode and the lines of each move
+  abbrev pub moves-group : Group
+  moves-group = record { times = h .steps * h .edges; first = mode 0x71; firsts = 1; second = line 0x72 (point-rows + h .guards + h .propositions); seconds = conclusions }
+
+  -- some-run form: the choice and the lines of each point
+  abbrev pub choices-group : Group
+  choices-group = record { times = h .places * h .states; first = choice; firsts = 1; second = line 0x82 point-rows; seconds = h .guards + h .propositions + conclusions }
+
+  abbrev pub every-run : Bool
+  every-run = eqb (h .form) 1
+
+  -- every-run form: the start lines; some-run form: the shown values
+  abbrev pub start-group : Group
+  start-group = cond every-run (repeated point-rows (line 0x70 (h .start-rows))) (repeated 1 (uniform 0x80 value (h .variables)))
+
+  abbrev pub groups : List Group
+  groups =
       repeated (h .start-rows) (row 0x20) ∷
-      record { times = h .steps; first = step; firsts = 1; second = row 0x31; seconds = h .guards } ∷
+      steps-group ∷
       repeated (h .propositions) proposition ∷
       repeated (h .states) state ∷
       repeated (h .edges) edge ∷
-      record { times = h .places * h .states; first = row 0x60; firsts = h .region-rows; second = row 0x61; seconds = h .rank-numbers } ∷ []
+      points-group ∷
+      start-group ∷
+      cond every-run moves-group choices-group ∷ []
 
-  -- every-run form: start lines, then mode and lines of each move
-  abbrev pub every-run : List Group
-  every-run =
-      repeated point-rows (line 0x70 (h .start-rows)) ∷
-      record { times = h .steps * h .edges; first = mode 0x71; firsts = 1; second = line 0x72 (point-rows + h .guards + h .propositions); seconds = conclusions } ∷ []
+-- the lines of one pass through a group, and of n passes
+abbrev pub group-pass : Group → List Frame
+group-pass g = replicate (g .firsts) (g .first) ++ replicate (g .seconds) (g .second)
 
-  -- some-run form: shown values, then choice and lines of each point
-  abbrev pub some-run : List Group
-  some-run =
-      repeated 1 (uniform 0x80 value (h .variables)) ∷
-      record { times = h .places * h .states; first = choice; firsts = 1; second = line 0x82 point-rows; seconds = h .guards + h .propositions + conclusions } ∷ []
-
-  abbrev pub groups : List Group
-  groups = program ++ cond (eqb (h .form) 1) every-run some-run
-
--- lines of a group, one after the other
 abbrev pub group-lines : Group → ℕ → List Frame
 group-lines g zero = []
-group-lines g (suc n) = replicate (g .firsts) (g .first) ++ replicate (g .seconds) (g .second) ++ group-lines g n
+group-lines g (suc n) = group-pass g ++ group-lines g n
 
 -- every line after the head, in order
 unfoldable pub lines-due : Counts → List Frame

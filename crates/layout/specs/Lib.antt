@@ -7,3 +7,4 @@ pub mod Refusals
 pub mod Cases
 pub mod Checking
 pub mod Laws
+pub mod Heads

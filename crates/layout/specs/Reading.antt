@@ -94,15 +94,19 @@ abbrev pub append : List ℤ → ℤ → List ℤ
 append vs v = vs ++ v ∷ []
 
 -- nothing may follow the last line
-abbrev pub finished : List ℕ → List ℤ → Place → Result (List ℤ) ReadFault
-finished text cells p = cond (leb (length text) (p .byte)) (Ok cells) (Err (Extra p))
+abbrev pub finished : {A : Type 0} → List ℕ → A → Place → Result A ReadFault
+finished text a p = cond (leb (length text) (p .byte)) (Ok a) (Err (Extra p))
 
--- the lines behind the head, where there is room for all cells; `cells` are those so far
-abbrev pub body : List ℕ → ℕ → List ℤ → List ℤ → Place → Result (List ℤ) ReadFault
-body text room head cells p =
-    cond (ltb room (cells-due (counts head))) (Err (TooFewCells (cells-due (counts head)) room))
-    (next (in-sheet (frames (text-supply text) append (lines-due (counts head)) cells p)) (λ x. finished text (x .0) (x .1)))
+module _ {A : Type 0} (push : A → ℤ → A) (text : List ℕ) (room : ℕ) where
+  -- the lines behind the head, where there is room for all cells
+  abbrev pub body : List ℤ → A → Place → Result A ReadFault
+  body head a p =
+      cond (ltb room (cells-due (counts head))) (Err (TooFewCells (cells-due (counts head)) room))
+      (next (in-sheet (frames (text-supply text) push (lines-due (counts head)) a p)) (λ x. finished text (x .0) (x .1)))
+
+  abbrev pub read-with : A → Result A ReadFault
+  read-with a = next (in-sheet (line (text-supply text) push head-kind head-fields unused 0 a start)) (λ x. body (x .0) (x .1) (x .2))
 
 -- the cells of a text, where `room` cells are handed over
 unfoldable pub read-text : List ℕ → ℕ → Result (List ℤ) ReadFault
-read-text text room = next (in-sheet (line (text-supply text) append head-kind head-fields unused 0 [] start)) (λ x. body text room (x .0) (x .1) (x .2))
+read-text text room = read-with append text room []

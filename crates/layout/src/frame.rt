@@ -6,17 +6,17 @@ use crate::field::Field;
 pub struct Frame {
     pub kind: u8,
     pub lead: [Field; 4],
-    pub leads: usize,
+    pub leads: u16,
     pub rest: Field,
-    pub count: usize,
+    pub count: u16,
 }
 
 // `times` times over: `firsts` lines like `first`, then `seconds` lines like `second`.
 #[derive(Clone, Copy)]
 pub struct Group {
-    pub times: usize,
+    pub times: u16,
     pub first: Frame,
-    pub firsts: usize,
+    pub firsts: u16,
     pub second: Frame,
-    pub seconds: usize,
+    pub seconds: u16,
 }

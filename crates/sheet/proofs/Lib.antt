@@ -1,0 +1,6 @@
+pub mod Bytes
+pub mod Filled
+pub mod Listed
+pub mod Passing
+pub mod Products
+pub mod Walking

@@ -1,0 +1,19 @@
+-- One digit at the front of what is left of a text.
+use mathlib.Core.List.{List, [], _∷_}
+use Prim.Native.Nat.{ℕ}
+use Rattle.std.specs.declared.option.Option.{Option}
+use Rattle.std.specs.declared.option.Option.the-variants.{Some, None}
+use Rattle.std.specs.declared.result.Result.{Result}
+use Rattle.std.specs.declared.result.Result.the-variants.{Ok, Err}
+use Rattle.layout.specs.declared.fault.Place.{Place}
+use Rattle.layout.specs.declared.fault.FieldFault.{FieldFault}
+use Rattle.layout.specs.declared.fault.FieldFault.the-variants.{Over}
+use Rattle.layout.specs.Reading.{nibble, no-digit}
+
+abbrev pub digit-of : ℕ → Place → Option ℕ → Result ℕ FieldFault
+digit-of b p None = Err (no-digit b p)
+digit-of b p (Some d) = Ok d
+
+abbrev pub one-digit : List ℕ → Place → Result ℕ FieldFault
+one-digit [] p = Err (Over p)
+one-digit (b ∷ bytes) p = digit-of b p (nibble b)

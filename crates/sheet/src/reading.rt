@@ -1,0 +1,145 @@
+// The methods of a reader.
+ghost use mathlib.Core.Path.{_≡_};
+ghost use denote.Ref.{now};
+ghost use Prim.Native.Nat.{_+_, _<_, _≤_, _^_};
+ghost use lib.ListN.{length, drop};
+ghost use Rattle.std.specs.Results.{Cases};
+ghost use Rattle.layout.specs.Reading as bytes;
+ghost use Rattle.layout.specs.Text.{digits-of};
+ghost use Rattle.layout.proofs.CheckLaw.{text-lawful};
+ghost use Rattle.sheet.specs.Digit.{one-digit};
+use crate::reader::Reader;
+use crate::tests_of::passes_in;
+use crate::walk::Fields;
+use layout::fault::FieldFault;
+use layout::fault::FieldInLine;
+use layout::fault::LineFault;
+use layout::fault::Place;
+use layout::field::Digits;
+use layout::field::Range;
+
+// The value of a digit's byte.
+fn nibble(b: u8) -> Option<u8>
+    ensures { λ r. ⌜ r ≡ bytes.nibble b ⌝ }
+{
+    match b {
+        48..=57 => Some(b - 48),
+        65..=70 => Some(b - 55),
+        _ => None,
+    }
+}
+
+fn digit_count(digits: Digits) -> u8
+    ensures { λ r. ⌜ r ≡ digits-of digits ⌝ ∗ ⌜ r ≤ 8 ⌝ }
+{
+    match digits {
+        Digits::Two => 2,
+        Digits::Four => 4,
+        Digits::Eight => 8,
+        Digits::Value => 8,
+    }
+}
+
+// The number that the digits stand for.
+fn number_of(digits: Digits, raw: u32) -> i64
+    requires { ⌜ raw < 16 ^ digits-of digits ⌝ }
+    ensures { λ r. ⌜ r ≡ bytes.number-of digits raw ⌝ }
+{
+    let number = raw as i64;
+    match digits {
+        Digits::Four if number >= 0x8000 => number - 0x1_0000,
+        Digits::Value if number >= 0x8000_0000 => number - 0x1_0000_0000,
+        _ => number,
+    }
+}
+
+impl<'a> Reader<'a> {
+    pub(crate) fn new(text: &'a [u8]) -> Self
+        ensures { λ r. ⌜ (r .text ≡ text .entry) × (r .place ≡ bytes.start) ⌝ }
+    {
+        Reader { text, place: Place { line: 1, byte: 0 } }
+    }
+
+    fn digit(&mut self) -> Result<u8, FieldFault>
+        ensures same { λ _. ⌜ now (self .exit) .text ≡ now (self .entry) .text ⌝ }
+        ensures read { λ r. ⌜ r ≡ one-digit (drop (now (self .entry) .place .byte) (now (now (self .entry) .text))) (now (self .entry) .place) ⌝ }
+        ensures behind { λ r. ⌜ Cases r (λ d. (d < 16) × (now (self .exit) .place ≡ bytes.ahead (now (self .entry) .place) 1)) (λ _. Unit {0}) ⌝ }
+    {
+        let at = self.place.byte;
+        if at >= self.text.len() {
+            return Err(FieldFault::Over(self.place));
+        }
+        let b = self.text[at];
+        match nibble(b) {
+            Some(d) => {
+                self.place.byte = at + 1;
+                Ok(d)
+            }
+            None if b == 10 => Err(FieldFault::LineFeed(self.place)),
+            None => Err(FieldFault::NoDigit(self.place)),
+        }
+    }
+
+    fn digits(&mut self, count: u8) -> Result<u32, FieldFault>
+        requires { ⌜ count ≤ 8 ⌝ }
+        ensures same { λ _. ⌜ now (self .exit) .text ≡ now (self .entry) .text ⌝ }
+        ensures read { λ r. ⌜ r ≡ bytes.digits count 0 (drop (now (self .entry) .place .byte) (now (now (self .entry) .text))) (now (self .entry) .place) ⌝ }
+        ensures behind { λ r. ⌜ Cases r (λ v. (v < 16 ^ count) × (now (self .exit) .place ≡ bytes.ahead (now (self .entry) .place) count)) (λ _. Unit {0}) ⌝ }
+    {
+        let mut value = 0;
+        for _ in 0..count {
+            let digit = self.digit()?;
+            value = value * 16 + digit as u32;
+        }
+        Ok(value)
+    }
+
+    // A field: its digits, then the test of its value.
+    fn take_field(&mut self, digits: Digits, range: Range) -> Result<i32, FieldFault>
+        ensures same { λ _. ⌜ now (self .exit) .text ≡ now (self .entry) .text ⌝ }
+        ensures read { λ r. ⌜ r ≡ bytes.field-at (now (now (self .entry) .text)) digits range (now (self .entry) .place) ⌝ }
+        ensures behind { λ r. ⌜ Cases r (λ _. now (self .exit) .place ≡ bytes.ahead (now (self .entry) .place) (digits-of digits)) (λ _. Unit {0}) ⌝ }
+    {
+        let start = self.place;
+        let raw = self.digits(digit_count(digits))?;
+        let value = number_of(digits, raw);
+        if passes_in(digits, range, value) {
+            Ok(value as i32)
+        } else {
+            Err(FieldFault::OutOfRange(start))
+        }
+    }
+}
+
+pub(crate) impl<'a> Fields for Reader<'a> as TextFields {
+    type Fault = LineFault;
+
+    ghost supply = { λ s. bytes.text-supply (now (s .text)) };
+
+    ghost lawful = { λ s. text-lawful (now (s .text)) };
+
+    ghost place = { λ s. s .place };
+
+    fn kind(&mut self, due: u8) -> Result<(), LineFault> {
+        let start = self.place;
+        let kind = self.digits(2)?;
+        if kind == due as u32 { Ok(()) } else { Err(LineFault::WrongKind(start)) }
+    }
+
+    fn field(&mut self, digits: Digits, range: Range) -> Result<i32, LineFault> {
+        let value = self.take_field(digits, range)?;
+        Ok(value)
+    }
+
+    fn end(&mut self) -> Result<(), LineFault> {
+        let at = self.place;
+        if at.byte >= self.text.len() {
+            return Err(LineFault::Unended(at));
+        }
+        if self.text[at.byte] != 10 {
+            return Err(LineFault::NoLineFeed(at));
+        }
+        self.place = Place { line: at.line + 1, byte: at.byte + 1 };
+        Ok(())
+    }
+}
