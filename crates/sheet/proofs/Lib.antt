@@ -1,5 +1,6 @@
 pub mod Bytes
 pub mod Filled
+pub mod Formed
 pub mod Listed
 pub mod Passing
 pub mod Products

@@ -1,0 +1,5 @@
+use Rattle.layout.proofs.Worked.{run-down-formed}
+use Rattle.sheet.proofs.opening.run_down.Needs as need
+
+pub ghost-result : need.ghost-result
+ghost-result c = (run-down-formed, tt)
