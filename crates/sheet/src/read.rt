@@ -1,6 +1,7 @@
 // Reading a sheet: its text into cells.
 ghost use mathlib.Core.Path.{_≡_};
 ghost use lib.ListN.{length};
+ghost use Rattle.layout.specs.Cases.{Worked-cases};
 ghost use Rattle.layout.specs.Laws.{Read-exactly, One-to-one, All-counted};
 ghost use Rattle.layout.specs.Reading.{read-with, read-text};
 ghost use Rattle.sheet.specs.Outcomes.{Read};
@@ -37,6 +38,7 @@ pub fn read(text: &[u8], cells: &mut [i32]) -> Result<usize, ReadFault>
     ensures exactly { λ _. ⌜ Read-exactly ⌝ }
     ensures one_to_one { λ _. ⌜ One-to-one ⌝ }
     ensures counted { λ _. ⌜ All-counted ⌝ }
+    ensures worked { λ _. ⌜ Worked-cases ⌝ }
 {
     let room = cells.len();
     go_through(text, room, &mut [])?;
