@@ -63,12 +63,15 @@ module _ {A B : Type 0} (push : A → ℤ → A) (push′ : B → ℤ → B) (h 
         at-end : (vs : List ℤ) (a : A) (x : Result Place E) → next x (λ z. Ok (vs, h a, z)) ≡ seen-led (next x (λ z. Ok (vs, a, z)))
         at-end vs a (Ok z) = refl
         at-end vs a (Err e) = refl
+
         at-run : (vs : List ℤ) (y : Result (A × Place) E) → next (seen y) (λ w. next (u .end (w .1)) (λ z. Ok (vs, w .0, z))) ≡ seen-led (next y (λ w. next (u .end (w .1)) (λ z. Ok (vs, w .0, z))))
         at-run vs (Ok w) = at-end vs (w .0) (u .end (w .1))
         at-run vs (Err e) = refl
+
         at-leads : (x : Result (List ℤ × A × Place) E) → next (seen-led x) (rest-of u rest n push′) ≡ seen-led (next x (rest-of u rest n push))
         at-leads (Ok x) = ap (λ y. next y (λ w. next (u .end (w .1)) (λ z. Ok (x .0, w .0, z)))) (run-seen (rest .digits) (rangeOf (rest .test) (x .0)) n (x .1) (x .2)) ∙ at-run (x .0) (run u push (rest .digits) (rangeOf (rest .test) (x .0)) n (x .1) (x .2))
         at-leads (Err e) = refl
+
         at-kind : (x : Result Place E) → next x (λ q. next (leads u push′ [] lead (h a) q) (rest-of u rest n push′)) ≡ seen-led (next x (λ q. next (leads u push [] lead a q) (rest-of u rest n push)))
         at-kind (Ok q) = ap (λ x. next x (rest-of u rest n push′)) (leads-seen [] lead a q) ∙ at-leads (leads u push [] lead a q)
         at-kind (Err e) = refl
@@ -102,6 +105,7 @@ module _ {A B : Type 0} (push : A → ℤ → A) (push′ : B → ℤ → B) (h 
         go : (x : Result (A × Place) LineFault) → next (in-sheet (seen x)) (λ y. finished text (y .0) (y .1)) ≡ seen-whole (next (in-sheet x) (λ y. finished text (y .0) (y .1)))
         go (Ok x) = ends-seen (x .0) (x .1)
         go (Err e) = refl
+
         roomy : (e : ReadFault) (t : Bool) → cond t (Err e) (next (in-sheet (seen (frames (text-supply text) push (lines-due (counts head)) a p))) (λ y. finished text (y .0) (y .1))) ≡ seen-whole (cond t (Err e) (next (in-sheet (frames (text-supply text) push (lines-due (counts head)) a p)) (λ y. finished text (y .0) (y .1))))
         roomy e true = refl
         roomy e false = go (frames (text-supply text) push (lines-due (counts head)) a p)

@@ -7,11 +7,11 @@ use lib.Chars.{codes}
 use lib.IntN.{ℤ, pos, negsuc}
 use Rattle.std.specs.declared.result.Result.{Result}
 use Rattle.std.specs.declared.result.Result.the-variants.{Ok, Err}
-use Rattle.layout.specs.declared.fault.ReadFault.{ReadFault}
-use Rattle.layout.specs.declared.fault.ReadFault.the-variants.{TooFewCells}
+use Rattle.layout.specs.declared.fault.Refusal.{Refusal}
 use Rattle.layout.specs.Cells.{well-formed}
 use Rattle.layout.specs.Text.{sheet-text}
 use Rattle.layout.specs.Reading.{read-text}
+use Rattle.layout.specs.Refusals.{refused, told, read-refusal}
 
 abbrev pub feed : List ℕ
 feed = 10 ∷ []
@@ -45,16 +45,16 @@ run-down-cells =
 pub record Case : Type 0 where
   pub text : List ℕ
   pub room : ℕ
-  pub answer : Result (List ℤ) ReadFault
+  pub answer : Result (List ℤ) Refusal
 
 abbrev pub reading-cases : List Case
 reading-cases =
     record { text = run-down-text; room = 37; answer = Ok run-down-cells } ∷
-    record { text = run-down-text; room = 36; answer = Err (TooFewCells 37 36) } ∷ []
+    record { text = run-down-text; room = 36; answer = Err (refused 0x10 37 36) } ∷ []
 
 abbrev pub All-read : List Case → Type 0
 All-read [] = Unit {0}
-All-read (c ∷ cs) = (read-text (c .text) (c .room) ≡ c .answer) × All-read cs
+All-read (c ∷ cs) = (told read-refusal (read-text (c .text) (c .room)) ≡ c .answer) × All-read cs
 
 abbrev pub Worked-cases : Type 0
 Worked-cases = All-read reading-cases × (well-formed run-down-cells ≡ true) × (sheet-text run-down-cells ≡ run-down-text)

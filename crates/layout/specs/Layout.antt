@@ -93,7 +93,7 @@ isZero (negsuc n) = false
 -- the values that a test allows after the line's earlier fields
 abbrev pub rangeOf : Test → List ℤ → Range
 rangeOf (Fixed range) earlier = range
-rangeOf (ByFirst none other) earlier = cond (isZero (getD earlier 0 (pos 0))) none other
+rangeOf (ByFirst at-zero other) earlier = cond (isZero (getD earlier 0 (pos 0))) at-zero other
 rangeOf (BelowField index) earlier = Between (pos 0) (below (getD earlier index (pos 0)))
 rangeOf (ApartField high index) earlier = Apart high (getD earlier index (pos 0))
 

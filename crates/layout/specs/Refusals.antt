@@ -1,5 +1,7 @@
 -- For each fault the number of its refusal and the two places that it tells.
 use Prim.Native.Nat.{ℕ}
+use Rattle.std.specs.declared.result.Result.{Result}
+use Rattle.std.specs.declared.result.Result.the-variants.{Ok, Err}
 use Rattle.layout.specs.declared.fault.Place.{Place}
 use Rattle.layout.specs.declared.fault.FieldFault.{FieldFault}
 use Rattle.layout.specs.declared.fault.FieldFault.the-variants.{NoDigit, LineFeed, Over, OutOfRange}
@@ -10,6 +12,11 @@ use Rattle.layout.specs.declared.fault.ReadFault.the-variants.{TooFewCells, Li
 use Rattle.layout.specs.declared.fault.OpenFault.{OpenFault}
 use Rattle.layout.specs.declared.fault.OpenFault.the-variants.{NotWellFormed}
 use Rattle.layout.specs.declared.fault.Refusal.{Refusal}
+
+-- a result with the refusal of its fault
+abbrev pub told : {A F : Type 0} → (F → Refusal) → Result A F → Result A Refusal
+told refusal (Ok a) = Ok a
+told refusal (Err e) = Err (refusal e)
 
 abbrev pub refused : ℕ → ℕ → ℕ → Refusal
 refused number first second = record { number = number; first = first; second = second }

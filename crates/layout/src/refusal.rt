@@ -11,7 +11,11 @@ use crate::fault::Refusal;
 fn at(number: u8, place: Place) -> Refusal
     ensures { λ r. ⌜ r ≡ refused-at number place ⌝ }
 {
-    Refusal { number, first: place.line, second: place.byte }
+    Refusal {
+        number,
+        first: place.line,
+        second: place.byte,
+    }
 }
 
 impl FieldFault {
@@ -60,6 +64,10 @@ impl OpenFault {
     pub fn refusal(self) -> Refusal
         ensures { λ r. ⌜ r ≡ open-refusal self ⌝ }
     {
-        Refusal { number: 0x39, first: 0, second: 0 }
+        Refusal {
+            number: 0x39,
+            first: 0,
+            second: 0,
+        }
     }
 }

@@ -38,10 +38,13 @@ puts-behind before (c ∷ cells) (v ∷ list) h =
   where
     room : length before < length (before ++ c ∷ cells)
     room = simp length-append (omega arith)
+
     long : length (before ++ v ∷ []) ≡ length before + 1
     long = length-append before (v ∷ [])
+
     one : put (length before, before ++ c ∷ cells) v ≡ (length (before ++ v ∷ []), (before ++ v ∷ []) ++ cells)
     one = ap (λ t. (cond t (length before + 1) (length before), set (before ++ c ∷ cells) (length before) v)) (lt-ltb _ _ room) ∙ (λ i. (sym long i, (set-at before c cells v (length before) refl ∙ sym (append-assoc before (v ∷ []) cells)) i))
+
     again : _≡_ {A = Store} (length (before ++ v ∷ []) + length list, (before ++ v ∷ []) ++ (list ++ drop (length list) cells)) (length before + length (v ∷ list), before ++ (v ∷ (list ++ drop (length list) cells)))
     again = (λ i. ((omega-long i), append-assoc before (v ∷ []) (list ++ drop (length list) cells) i))
       where
@@ -71,9 +74,11 @@ module _ (text : List ℕ) (room : ℕ) where
     where
       took : (list : List ℤ) → read-text text room ≡ Ok list → Answers (λ n. (n, after)) r (Ok (puts (0, before) list))
       took list e = subst (Answers (λ n. (n, after)) r) (through text room (0, before) ∙ ap (seen-whole append put (puts (0, before)) (puts-append (0, before))) e) h
+
       is : (list : List ℤ) (r : Result ℕ ReadFault) → puts (0, before) list ≡ (length list, list ++ drop (length list) before) → Answers (λ n. (n, after)) r (Ok (puts (0, before) list)) → (r ≡ Ok (length list)) × (after ≡ list ++ drop (length list) before)
       is list (Ok n) e k = let both : _≡_ {A = Store} (length list, list ++ drop (length list) before) (n, after) = cc in (ap (λ x. Ok (x .0)) (sym both), ap (λ x. x .1) (sym both))
       is list (Err d) e k = let z : _≡_ {A = ℕ} 0 1 = cc in absurd (omega arith)
+
       go : (x : Result (List ℤ) ReadFault) → read-text text room ≡ x → Read x r before after
       go (Ok list) e =
           let roomy = read-exactly all-counted text room list .0 e .roomy in

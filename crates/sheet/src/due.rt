@@ -13,14 +13,24 @@ use layout::frame::Frame;
 use layout::frame::Group;
 use layout::head::Head;
 
-const ANY_NUMBER: Range = Range::Between { low: -0x8000, high: 0x7fff };
+const ANY_NUMBER: Range = Range::Between {
+    low: -0x8000,
+    high: 0x7fff,
+};
+
 const ONLY_ZERO: Range = Range::Between { low: 0, high: 0 };
+
 const HIGHEST: i32 = 1_048_575;
 
 fn field(digits: Digits, low: i32, high: i32) -> Field
     ensures { λ r. ⌜ r ≡ record { digits = digits; test = Test.Fixed (Range.Between low high) } ⌝ }
 {
-    Field { digits, test: Test::Fixed { range: Range::Between { low, high } } }
+    Field {
+        digits,
+        test: Test::Fixed {
+            range: Range::Between { low, high },
+        },
+    }
 }
 
 // A two-digit number from `low` to `high`.
@@ -42,20 +52,35 @@ fn one_of(n: u16) -> Field
 fn uniform(kind: u8, rest: Field, count: u16) -> Frame
     ensures { λ r. ⌜ r ≡ due.uniform kind rest count ⌝ }
 {
-    Frame { kind, lead: [short(0, 0); 4], leads: 0, rest, count }
+    Frame {
+        kind,
+        lead: [short(0, 0); 4],
+        leads: 0,
+        rest,
+        count,
+    }
 }
 
 fn led(kind: u8, first: Field, rest: Field, count: u16) -> Frame
     ensures { λ r. ⌜ r ≡ due.led kind first rest count ⌝ }
 {
     let unused = short(0, 0);
-    Frame { kind, lead: [first, unused, unused, unused], leads: 1, rest, count }
+    Frame {
+        kind,
+        lead: [first, unused, unused, unused],
+        leads: 1,
+        rest,
+        count,
+    }
 }
 
 fn number() -> Field
     ensures { λ r. ⌜ r ≡ due.number ⌝ }
 {
-    Field { digits: Digits::Four, test: Test::Fixed { range: ANY_NUMBER } }
+    Field {
+        digits: Digits::Four,
+        test: Test::Fixed { range: ANY_NUMBER },
+    }
 }
 
 fn row(head: &Head, kind: u8) -> Frame
@@ -83,18 +108,33 @@ fn step(head: &Head) -> Frame
 fn proposition(head: &Head) -> Frame
     ensures { λ r. ⌜ r ≡ due.proposition (counts-of (now (head .entry))) ⌝ }
 {
-    let place = Range::Between { low: 0, high: head.places as i32 - 1 };
+    let place = Range::Between {
+        low: 0,
+        high: head.places as i32 - 1,
+    };
     let unused = short(0, 0);
     Frame {
         kind: 0x40,
         lead: [
             short(0, 1),
-            Field { digits: Digits::Two, test: Test::ByFirst { zero: ONLY_ZERO, other: place } },
+            Field {
+                digits: Digits::Two,
+                test: Test::ByFirst {
+                    zero: ONLY_ZERO,
+                    other: place,
+                },
+            },
             unused,
             unused,
         ],
         leads: 2,
-        rest: Field { digits: Digits::Four, test: Test::ByFirst { zero: ANY_NUMBER, other: ONLY_ZERO } },
+        rest: Field {
+            digits: Digits::Four,
+            test: Test::ByFirst {
+                zero: ANY_NUMBER,
+                other: ONLY_ZERO,
+            },
+        },
         count: head.variables + 1,
     }
 }
@@ -125,7 +165,10 @@ fn edge(head: &Head) -> Frame
             state,
             state,
             field(Digits::Two, 0, high),
-            Field { digits: Digits::Two, test: Test::ApartField { high, index: 2 } },
+            Field {
+                digits: Digits::Two,
+                test: Test::ApartField { high, index: 2 },
+            },
         ],
         leads: 4,
         rest: short(0, 0),
@@ -137,7 +180,12 @@ fn edge(head: &Head) -> Frame
 fn line(kind: u8, hypotheses: u16) -> Frame
     ensures { λ r. ⌜ r ≡ due.line kind hypotheses ⌝ }
 {
-    led(kind, field(Digits::Eight, 1, HIGHEST), field(Digits::Eight, 0, HIGHEST), hypotheses)
+    led(
+        kind,
+        field(Digits::Eight, 1, HIGHEST),
+        field(Digits::Eight, 0, HIGHEST),
+        hypotheses,
+    )
 }
 
 fn mode(head: &Head, kind: u8) -> Frame
@@ -167,7 +215,13 @@ fn choice(head: &Head) -> Frame
 fn repeated(times: u16, frame: Frame) -> Group
     ensures { λ r. ⌜ r ≡ due.repeated times frame ⌝ }
 {
-    Group { times, first: frame, firsts: 1, second: frame, seconds: 0 }
+    Group {
+        times,
+        first: frame,
+        firsts: 1,
+        second: frame,
+        seconds: 0,
+    }
 }
 
 fn steps(head: &Head) -> Group
@@ -224,7 +278,10 @@ fn start(head: &Head) -> Group
     ensures { λ r. ⌜ r ≡ due.start-group (counts-of (now (head .entry))) ⌝ }
 {
     if head.form == 1 {
-        repeated(head.region_rows + head.rank_numbers, line(0x70, head.start_rows))
+        repeated(
+            head.region_rows + head.rank_numbers,
+            line(0x70, head.start_rows),
+        )
     } else {
         let value = field(Digits::Value, i32::MIN, i32::MAX);
         repeated(1, uniform(0x80, value, head.variables))
@@ -235,7 +292,11 @@ fn start(head: &Head) -> Group
 pub(crate) fn groups(head: &Head) -> [Group; 8]
     ensures { λ r. ⌜ r ≡ due.groups (counts-of (now (head .entry))) ⌝ }
 {
-    let proofs = if head.form == 1 { moves(head) } else { choices(head) };
+    let proofs = if head.form == 1 {
+        moves(head)
+    } else {
+        choices(head)
+    };
     [
         repeated(head.start_rows, row(head, 0x20)),
         steps(head),
@@ -260,7 +321,8 @@ fn width(frame: &Frame) -> usize
 fn group_cells(group: &Group) -> usize
     ensures { λ r. ⌜ r ≡ fields.group-cells (now (group .entry)) ⌝ ∗ ⌜ r < 2 ^ 50 ⌝ }
 {
-    let once = group.firsts as usize * width(&group.first) + group.seconds as usize * width(&group.second);
+    let once = group.firsts as usize * width(&group.first)
+        + group.seconds as usize * width(&group.second);
     group.times as usize * once
 }
 

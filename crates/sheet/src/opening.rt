@@ -19,7 +19,10 @@ use layout::fault::Place;
 fn check(list: &[i32]) -> Result<(), OpenFault>
     ensures { λ r. ⌜ r ≡ verdict (well-formed (now (list .entry))) ⌝ }
 {
-    let mut checker = Checker { list, place: Place { line: 1, byte: 0 } };
+    let mut checker = Checker {
+        list,
+        place: Place { line: 1, byte: 0 },
+    };
     // the values are kept nowhere
     let mut nowhere = [];
     let (head, next) = head(&mut checker, &mut nowhere)?;

@@ -22,7 +22,10 @@ fn go_through(text: &[u8], room: usize, cells: &mut [i32]) -> Result<usize, Read
     let (head, next) = head(&mut reader, cells)?;
     let needed = cells_due(&head);
     if room < needed {
-        return Err(ReadFault::TooFewCells { needed, given: room });
+        return Err(ReadFault::TooFewCells {
+            needed,
+            given: room,
+        });
     }
     let last = body(&mut reader, &head, cells, next)?;
     if reader.place.byte < text.len() {

@@ -57,7 +57,10 @@ impl<'a> Reader<'a> {
     pub(crate) fn new(text: &'a [u8]) -> Self
         ensures { λ r. ⌜ (r .text ≡ text .entry) × (r .place ≡ bytes.start) ⌝ }
     {
-        Reader { text, place: Place { line: 1, byte: 0 } }
+        Reader {
+            text,
+            place: Place { line: 1, byte: 0 },
+        }
     }
 
     fn digit(&mut self) -> Result<u8, FieldFault>
@@ -123,7 +126,11 @@ pub(crate) impl<'a> Fields for Reader<'a> as TextFields {
     fn kind(&mut self, due: u8) -> Result<(), LineFault> {
         let start = self.place;
         let kind = self.digits(2)?;
-        if kind == due as u32 { Ok(()) } else { Err(LineFault::WrongKind(start)) }
+        if kind == due as u32 {
+            Ok(())
+        } else {
+            Err(LineFault::WrongKind(start))
+        }
     }
 
     fn field(&mut self, digits: Digits, range: Range) -> Result<i32, LineFault> {
@@ -139,7 +146,10 @@ pub(crate) impl<'a> Fields for Reader<'a> as TextFields {
         if self.text[at.byte] != 10 {
             return Err(LineFault::NoLineFeed(at));
         }
-        self.place = Place { line: at.line + 1, byte: at.byte + 1 };
+        self.place = Place {
+            line: at.line + 1,
+            byte: at.byte + 1,
+        };
         Ok(())
     }
 }

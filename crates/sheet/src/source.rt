@@ -13,6 +13,7 @@ use crate::tests_of::value_at;
 // A source means a list of cells, which is well formed. A question changes nothing.
 pub trait Source {
     ghost cells: { Self → List ℤ };
+
     ghost formed: { (s : Self) → well-formed (cells s) ≡ true };
 
     fn count(&self) -> usize
@@ -25,7 +26,43 @@ pub trait Source {
 
 // The cells of the run-down dossier: x counts down to 0.
 pub(crate) const RUN_DOWN: [i32; 37] = [
-    1, 1, 1, 0, 1, 1, 1, 1, 0, 0, 0, 1, 1, 0, 1, 0, 0, -1, 1, -1, 1, 0, 0, 0, 0, 0, 0, 1, 1, 1, 1, 1, 0, 1, 1, 0, 0,
+    1,
+    1,
+    1,
+    0,
+    1,
+    1,
+    1,
+    1,
+    0,
+    0,
+    0,
+    1,
+    1,
+    0,
+    1,
+    0,
+    0,
+    -1,
+    1,
+    -1,
+    1,
+    0,
+    0,
+    0,
+    0,
+    0,
+    0,
+    1,
+    1,
+    1,
+    1,
+    1,
+    0,
+    1,
+    1,
+    0,
+    0,
 ];
 
 // The built-in dossier, from a constant table.

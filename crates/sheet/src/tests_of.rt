@@ -13,7 +13,11 @@ use layout::field::Test;
 pub(crate) fn value_at(values: &[i32], index: usize) -> i32
     ensures { λ r. ⌜ r ≡ getD (now (values .entry)) index (pos 0) ⌝ }
 {
-    if index < values.len() { values[index] } else { 0 }
+    if index < values.len() {
+        values[index]
+    } else {
+        0
+    }
 }
 
 // One below a count, and -1 where it is none.
@@ -46,7 +50,6 @@ pub(crate) fn range_of(test: Test, earlier: &[i32]) -> Range
         },
     }
 }
-
 
 fn between(low: i64, high: i64, value: i64) -> bool
     ensures { λ r. ⌜ r ≡ between low high value ⌝ }

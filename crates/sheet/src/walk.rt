@@ -28,7 +28,9 @@ pub(crate) trait Fields {
 
     // what stands at each place, and the place where the next field is taken
     ghost supply: { Self → walking.Supply Self·Fault };
+
     ghost lawful: { (s : Self) → walking.Lawful (supply s) };
+
     ghost place: { Self → Place.Place };
 
     fn kind(&mut self, due: u8) -> Result<(), Self::Fault>
@@ -57,7 +59,14 @@ fn store(cells: &mut [i32], at: usize, value: i32) -> usize
 }
 
 // `count` fields of one sort.
-fn run<V: Fields>(fields: &mut V, digits: Digits, range: Range, count: u16, cells: &mut [i32], at: usize) -> Result<usize, V::Fault>
+fn run<V: Fields>(
+    fields: &mut V,
+    digits: Digits,
+    range: Range,
+    count: u16,
+    cells: &mut [i32],
+    at: usize,
+) -> Result<usize, V::Fault>
     ensures same { λ _. ⌜ V·Fields .supply (now (fields .exit)) ≡ V·Fields .supply (now (fields .entry)) ⌝ }
     ensures walked { λ r. ⌜ Stored r (now (cells .exit)) (V·Fields .place (now (fields .exit))) (walking.run (V·Fields .supply (now (fields .entry))) put digits range count (at, now (cells .entry)) (V·Fields .place (now (fields .entry)))) ⌝ }
 {
@@ -70,7 +79,12 @@ fn run<V: Fields>(fields: &mut V, digits: Digits, range: Range, count: u16, cell
 }
 
 // The leading fields of a line; their values stand at the front of the array.
-fn leads<V: Fields>(fields: &mut V, lead: &[Field], cells: &mut [i32], at: usize) -> Result<([i32; 13], usize), V::Fault>
+fn leads<V: Fields>(
+    fields: &mut V,
+    lead: &[Field],
+    cells: &mut [i32],
+    at: usize,
+) -> Result<([i32; 13], usize), V::Fault>
     requires { ⌜ length (now lead) ≤ 13 ⌝ }
     ensures same { λ _. ⌜ V·Fields .supply (now (fields .exit)) ≡ V·Fields .supply (now (fields .entry)) ⌝ }
     ensures walked { λ r. ⌜ Led (length (now (lead .entry))) r (now (cells .exit)) (V·Fields .place (now (fields .exit))) (walking.leads (V·Fields .supply (now (fields .entry))) put [] (now (lead .entry)) (at, now (cells .entry)) (V·Fields .place (now (fields .entry)))) ⌝ }
@@ -87,7 +101,15 @@ fn leads<V: Fields>(fields: &mut V, lead: &[Field], cells: &mut [i32], at: usize
 }
 
 // A line: its kind, its leading fields, `count` fields like `rest` and its end. The leading values are told too.
-fn line<V: Fields>(fields: &mut V, kind: u8, lead: &[Field], rest: Field, count: u16, cells: &mut [i32], at: usize) -> Result<([i32; 13], usize), V::Fault>
+fn line<V: Fields>(
+    fields: &mut V,
+    kind: u8,
+    lead: &[Field],
+    rest: Field,
+    count: u16,
+    cells: &mut [i32],
+    at: usize,
+) -> Result<([i32; 13], usize), V::Fault>
     requires { ⌜ length (now lead) ≤ 13 ⌝ }
     ensures same { λ _. ⌜ V·Fields .supply (now (fields .exit)) ≡ V·Fields .supply (now (fields .entry)) ⌝ }
     ensures walked { λ r. ⌜ Led (length (now (lead .entry))) r (now (cells .exit)) (V·Fields .place (now (fields .exit))) (walking.line (V·Fields .supply (now (fields .entry))) put kind (now (lead .entry)) rest count (at, now (cells .entry)) (V·Fields .place (now (fields .entry)))) ⌝ }
@@ -100,17 +122,36 @@ fn line<V: Fields>(fields: &mut V, kind: u8, lead: &[Field], rest: Field, count:
     Ok((values, last))
 }
 
-fn frame_line<V: Fields>(fields: &mut V, frame: &Frame, cells: &mut [i32], at: usize) -> Result<usize, V::Fault>
+fn frame_line<V: Fields>(
+    fields: &mut V,
+    frame: &Frame,
+    cells: &mut [i32],
+    at: usize,
+) -> Result<usize, V::Fault>
     ensures same { λ _. ⌜ V·Fields .supply (now (fields .exit)) ≡ V·Fields .supply (now (fields .entry)) ⌝ }
     ensures walked { λ r. ⌜ Stored r (now (cells .exit)) (V·Fields .place (now (fields .exit))) (walking.frame (V·Fields .supply (now (fields .entry))) put (now (frame .entry)) (at, now (cells .entry)) (V·Fields .place (now (fields .entry)))) ⌝ }
 {
     let leads = frame.lead.len().min(frame.leads as usize);
-    let (_, next) = line(fields, frame.kind, &frame.lead[0..leads], frame.rest, frame.count, cells, at)?;
+    let (_, next) = line(
+        fields,
+        frame.kind,
+        &frame.lead[0..leads],
+        frame.rest,
+        frame.count,
+        cells,
+        at,
+    )?;
     Ok(next)
 }
 
 // `times` lines of one sort.
-fn lines<V: Fields>(fields: &mut V, frame: &Frame, times: u16, cells: &mut [i32], at: usize) -> Result<usize, V::Fault>
+fn lines<V: Fields>(
+    fields: &mut V,
+    frame: &Frame,
+    times: u16,
+    cells: &mut [i32],
+    at: usize,
+) -> Result<usize, V::Fault>
     ensures same { λ _. ⌜ V·Fields .supply (now (fields .exit)) ≡ V·Fields .supply (now (fields .entry)) ⌝ }
     ensures walked { λ r. ⌜ Stored r (now (cells .exit)) (V·Fields .place (now (fields .exit))) (walking.frames (V·Fields .supply (now (fields .entry))) put (replicate times (now (frame .entry))) (at, now (cells .entry)) (V·Fields .place (now (fields .entry)))) ⌝ }
 {
@@ -122,7 +163,12 @@ fn lines<V: Fields>(fields: &mut V, frame: &Frame, times: u16, cells: &mut [i32]
 }
 
 // One pass through a group.
-fn pass<V: Fields>(fields: &mut V, group: &Group, cells: &mut [i32], at: usize) -> Result<usize, V::Fault>
+fn pass<V: Fields>(
+    fields: &mut V,
+    group: &Group,
+    cells: &mut [i32],
+    at: usize,
+) -> Result<usize, V::Fault>
     ensures same { λ _. ⌜ V·Fields .supply (now (fields .exit)) ≡ V·Fields .supply (now (fields .entry)) ⌝ }
     ensures walked { λ r. ⌜ Stored r (now (cells .exit)) (V·Fields .place (now (fields .exit))) (walking.frames (V·Fields .supply (now (fields .entry))) put (group-pass (now (group .entry))) (at, now (cells .entry)) (V·Fields .place (now (fields .entry)))) ⌝ }
 {
@@ -131,7 +177,12 @@ fn pass<V: Fields>(fields: &mut V, group: &Group, cells: &mut [i32], at: usize) 
 }
 
 // A group's lines, as often as it is repeated.
-fn group_lines<V: Fields>(fields: &mut V, group: &Group, cells: &mut [i32], at: usize) -> Result<usize, V::Fault>
+fn group_lines<V: Fields>(
+    fields: &mut V,
+    group: &Group,
+    cells: &mut [i32],
+    at: usize,
+) -> Result<usize, V::Fault>
     ensures same { λ _. ⌜ V·Fields .supply (now (fields .exit)) ≡ V·Fields .supply (now (fields .entry)) ⌝ }
     ensures walked { λ r. ⌜ Stored r (now (cells .exit)) (V·Fields .place (now (fields .exit))) (walking.frames (V·Fields .supply (now (fields .entry))) put (group-lines (now (group .entry)) (now (group .entry) .times)) (at, now (cells .entry)) (V·Fields .place (now (fields .entry)))) ⌝ }
 {
@@ -143,7 +194,12 @@ fn group_lines<V: Fields>(fields: &mut V, group: &Group, cells: &mut [i32], at: 
 }
 
 // Every line after the head.
-pub(crate) fn body<V: Fields>(fields: &mut V, head: &Head, cells: &mut [i32], at: usize) -> Result<usize, V::Fault>
+pub(crate) fn body<V: Fields>(
+    fields: &mut V,
+    head: &Head,
+    cells: &mut [i32],
+    at: usize,
+) -> Result<usize, V::Fault>
     ensures same { λ _. ⌜ V·Fields .supply (now (fields .exit)) ≡ V·Fields .supply (now (fields .entry)) ⌝ }
     ensures walked { λ r. ⌜ Stored r (now (cells .exit)) (V·Fields .place (now (fields .exit))) (walking.frames (V·Fields .supply (now (fields .entry))) put (lines-due (counts-of (now (head .entry)))) (at, now (cells .entry)) (V·Fields .place (now (fields .entry)))) ⌝ }
 {
@@ -185,22 +241,88 @@ fn head_of(values: &[i32]) -> Head
 
 // The fields of the head line: nine counts, start place and start state, form, count of rank numbers.
 const HEAD_FIELDS: [Field; 13] = [
-    Field { digits: Digits::Two, test: Test::Fixed { range: Range::Between { low: 1, high: 6 } } },
-    Field { digits: Digits::Two, test: Test::Fixed { range: Range::Between { low: 1, high: 8 } } },
-    Field { digits: Digits::Two, test: Test::Fixed { range: Range::Between { low: 1, high: 16 } } },
-    Field { digits: Digits::Two, test: Test::Fixed { range: Range::Between { low: 0, high: 8 } } },
-    Field { digits: Digits::Two, test: Test::Fixed { range: Range::Between { low: 1, high: 4 } } },
-    Field { digits: Digits::Two, test: Test::Fixed { range: Range::Between { low: 1, high: 12 } } },
-    Field { digits: Digits::Two, test: Test::Fixed { range: Range::Between { low: 0, high: 4 } } },
-    Field { digits: Digits::Two, test: Test::Fixed { range: Range::Between { low: 0, high: 4 } } },
-    Field { digits: Digits::Two, test: Test::Fixed { range: Range::Between { low: 0, high: 4 } } },
-    Field { digits: Digits::Two, test: Test::BelowField { index: 1 } },
-    Field { digits: Digits::Two, test: Test::BelowField { index: 4 } },
-    Field { digits: Digits::Two, test: Test::Fixed { range: Range::Between { low: 1, high: 2 } } },
-    Field { digits: Digits::Two, test: Test::Fixed { range: Range::Between { low: 1, high: 2 } } },
+    Field {
+        digits: Digits::Two,
+        test: Test::Fixed {
+            range: Range::Between { low: 1, high: 6 },
+        },
+    },
+    Field {
+        digits: Digits::Two,
+        test: Test::Fixed {
+            range: Range::Between { low: 1, high: 8 },
+        },
+    },
+    Field {
+        digits: Digits::Two,
+        test: Test::Fixed {
+            range: Range::Between { low: 1, high: 16 },
+        },
+    },
+    Field {
+        digits: Digits::Two,
+        test: Test::Fixed {
+            range: Range::Between { low: 0, high: 8 },
+        },
+    },
+    Field {
+        digits: Digits::Two,
+        test: Test::Fixed {
+            range: Range::Between { low: 1, high: 4 },
+        },
+    },
+    Field {
+        digits: Digits::Two,
+        test: Test::Fixed {
+            range: Range::Between { low: 1, high: 12 },
+        },
+    },
+    Field {
+        digits: Digits::Two,
+        test: Test::Fixed {
+            range: Range::Between { low: 0, high: 4 },
+        },
+    },
+    Field {
+        digits: Digits::Two,
+        test: Test::Fixed {
+            range: Range::Between { low: 0, high: 4 },
+        },
+    },
+    Field {
+        digits: Digits::Two,
+        test: Test::Fixed {
+            range: Range::Between { low: 0, high: 4 },
+        },
+    },
+    Field {
+        digits: Digits::Two,
+        test: Test::BelowField { index: 1 },
+    },
+    Field {
+        digits: Digits::Two,
+        test: Test::BelowField { index: 4 },
+    },
+    Field {
+        digits: Digits::Two,
+        test: Test::Fixed {
+            range: Range::Between { low: 1, high: 2 },
+        },
+    },
+    Field {
+        digits: Digits::Two,
+        test: Test::Fixed {
+            range: Range::Between { low: 1, high: 2 },
+        },
+    },
 ];
 
-const NO_FIELD: Field = Field { digits: Digits::Two, test: Test::Fixed { range: Range::Between { low: 0, high: 0 } } };
+const NO_FIELD: Field = Field {
+    digits: Digits::Two,
+    test: Test::Fixed {
+        range: Range::Between { low: 0, high: 0 },
+    },
+};
 
 // The head line.
 pub(crate) fn head<V: Fields>(fields: &mut V, cells: &mut [i32]) -> Result<(Head, usize), V::Fault>

@@ -12,7 +12,7 @@ pub returns-in-Break-go-through : need.returns-in-Break-go-through
 returns-in-Break-go-through c =
     let p = err-from-errBy (c .from-residual .result) (c .from-residual .ensures .1) in
     let e = refused (c .args .text .now) (length (c .args .cells .now)) (0, []) (c .in-Break-go-through .ensures tt) in
-    rw (p .1, p .2, e) (record { outcome = (refl, refl); exactly = read-exactly all-counted; one-to-one = one-to-one all-counted; counted = all-counted; worked = worked })
+    rw (p .1, p .2, e) (record { outcome = (refl, refl, refl); exactly = read-exactly all-counted; one-to-one = one-to-one all-counted; counted = all-counted; worked = worked })
 
 pub returns : need.returns
 returns c =

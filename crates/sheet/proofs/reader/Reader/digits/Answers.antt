@@ -23,8 +23,7 @@ pub loop-again : need.loop-again
 loop-again c =
     let told = c .in-Continue-digit .ensures tt in
     let s = c .loop .self in
-    let more = loop-more (s .text .now) (s .place) (c .args .count - c .loop .counter) (c .args .count - (c .loop .counter + 1)) (c .loop .value) (omega arith) (c .in-Continue-digit .digit) (sym (told .read)) (c .digit .last .self .text .now) (c .digit .last .self .place) (ap (λ t. t .now) (told .same)) (told .behind .1) in
-    (
+    let more = loop-more (s .text .now) (s .place) (c .args .count - c .loop .counter) (c .args .count - (c .loop .counter + 1)) (c .loop .value) (omega arith) (c .in-Continue-digit .digit) (sym (told .read)) (c .digit .last .self .text .now) (c .digit .last .self .place) (ap (λ t. t .now) (told .same)) (told .behind .1) in (
       told .same ∙ c .loop .inv .0,
       shifted-small (c .loop .counter) (c .loop .value) (c .in-Continue-digit .digit) (c .loop .inv .1) (told .behind .0),
       ahead-more (c .args .self .now .place) (c .loop .counter) 1 (c .loop .inv .2) (told .behind .1),
