@@ -65,8 +65,12 @@ module _ {E A : Type 0} (u : Supply E) (push : A → ℤ → A) where
       go more (Err e) = refl
 
   -- a frame is a line of its leading fields
-  pub frame-is : (f : Frame) (lead : List Field) → lead ≡ leading f → (a : A) (p : Place) {x : Result (List ℤ × A × Place) E} → line u push (f .kind) lead (f .rest) (f .count) a p ≡ x → frame u push f a p ≡ next x (λ y. Ok (y .1, y .2))
+  frame-is : (f : Frame) (lead : List Field) → lead ≡ leading f → (a : A) (p : Place) {x : Result (List ℤ × A × Place) E} → line u push (f .kind) lead (f .rest) (f .count) a p ≡ x → frame u push f a p ≡ next x (λ y. Ok (y .1, y .2))
   frame-is f lead e a p h = ap (λ y. next y (λ z. Ok (z .1, z .2))) (ap (λ l. line u push (f .kind) l (f .rest) (f .count) a p) (sym e) ∙ h)
+
+  pub frame-answers : {T : Type 0} (f : Frame) (lead : List Field) → lead ≡ leading f → (a : A) (p : Place) (vs : List ℤ) (left : T → A) (q : Place) (r : Result T E) → Answers (λ n. (vs, left n, q)) r (line u push (f .kind) lead (f .rest) (f .count) a p) → Answers (λ n. (left n, q)) r (frame u push f a p)
+  frame-answers f lead e a p vs left q (Ok n) h = frame-is f lead e a p h
+  frame-answers f lead e a p vs left q (Err d) h = frame-is f lead e a p h
 
   pub one-line : (f : Frame) (a : A) (p : Place) {x : Result (A × Place) E} → frame u push f a p ≡ x → frames u push (f ∷ []) a p ≡ x
   one-line f a p {x} h = ap (λ y. next y (λ z. Ok (z .0, z .1))) h ∙ whole x

@@ -37,9 +37,9 @@ module _ {E : Type 0} where
   abbrev pub Stored : Result ℕ E → List ℤ → Place → Result (Store × Place) E → Type 0
   Stored r cells p x = Answers (λ n. ((n, cells), p)) r x
 
-  -- the line's first `n` values stand in an array
-  abbrev pub Led : ℕ → Result (List ℤ × ℕ) E → List ℤ → Place → Result (List ℤ × Store × Place) E → Type 0
-  Led n r cells p x = Answers (λ a. (take n (a .0), (a .1, cells), p)) r x
+  -- the line's first `n` values stand at the front of `values`
+  abbrev pub Led : ℕ → Result ℕ E → List ℤ → List ℤ → Place → Result (List ℤ × Store × Place) E → Type 0
+  Led n r values cells p x = Answers (λ m. (take n values, (m, cells), p)) r x
 
 -- a head was taken from the line's leading values
 abbrev pub Headed : {E : Type 0} → Result (Head × ℕ) E → List ℤ → Place → Result (List ℤ × Store × Place) E → Type 0

@@ -44,6 +44,19 @@ pub(crate) trait Fields {
     fn end(&mut self) -> Result<(), Self::Fault>
         ensures same { λ _. ⌜ supply (now (self .exit)) ≡ supply (now (self .entry)) ⌝ }
         ensures found { λ r. ⌜ Found r (place (now (self .exit))) (supply (now (self .entry)) .end (place (now (self .entry)))) ⌝ };
+
+    // `count` fields of one sort.
+    fn run(&mut self, digits: Digits, range: Range, count: u16, cells: &mut [i32], at: usize) -> Result<usize, Self::Fault>
+        ensures same { λ _. ⌜ supply (now (self .exit)) ≡ supply (now (self .entry)) ⌝ }
+        ensures walked { λ r. ⌜ Stored r (now (cells .exit)) (place (now (self .exit))) (walking.run (supply (now (self .entry))) put digits range count (at, now (cells .entry)) (place (now (self .entry)))) ⌝ }
+    {
+        let mut next = at;
+        for _ in 0..count {
+            let value = self.field(digits, range)?;
+            next = store(cells, next, value);
+        }
+        Ok(next)
+    }
 }
 
 // Puts a value into the next free cell, if there is one, and tells the one after it.
@@ -58,38 +71,18 @@ fn store(cells: &mut [i32], at: usize, value: i32) -> usize
     }
 }
 
-// `count` fields of one sort.
-fn run<V: Fields>(
-    fields: &mut V,
-    digits: Digits,
-    range: Range,
-    count: u16,
-    cells: &mut [i32],
-    at: usize,
-) -> Result<usize, V::Fault>
-    ensures same { λ _. ⌜ V·Fields .supply (now (fields .exit)) ≡ V·Fields .supply (now (fields .entry)) ⌝ }
-    ensures walked { λ r. ⌜ Stored r (now (cells .exit)) (V·Fields .place (now (fields .exit))) (walking.run (V·Fields .supply (now (fields .entry))) put digits range count (at, now (cells .entry)) (V·Fields .place (now (fields .entry)))) ⌝ }
-{
-    let mut next = at;
-    for _ in 0..count {
-        let value = fields.field(digits, range)?;
-        next = store(cells, next, value);
-    }
-    Ok(next)
-}
-
-// The leading fields of a line; their values stand at the front of the array.
+// The leading fields of a line; their values go to the front of `values`.
 fn leads<V: Fields>(
     fields: &mut V,
     lead: &[Field],
+    values: &mut [i32],
     cells: &mut [i32],
     at: usize,
-) -> Result<([i32; 13], usize), V::Fault>
-    requires { ⌜ length (now lead) ≤ 13 ⌝ }
+) -> Result<usize, V::Fault>
+    requires { ⌜ length (now lead) ≤ length (now values) ⌝ }
     ensures same { λ _. ⌜ V·Fields .supply (now (fields .exit)) ≡ V·Fields .supply (now (fields .entry)) ⌝ }
-    ensures walked { λ r. ⌜ Led (length (now (lead .entry))) r (now (cells .exit)) (V·Fields .place (now (fields .exit))) (walking.leads (V·Fields .supply (now (fields .entry))) put [] (now (lead .entry)) (at, now (cells .entry)) (V·Fields .place (now (fields .entry)))) ⌝ }
+    ensures walked { λ r. ⌜ Led (length (now (lead .entry))) r (now (values .exit)) (now (cells .exit)) (V·Fields .place (now (fields .exit))) (walking.leads (V·Fields .supply (now (fields .entry))) put [] (now (lead .entry)) (at, now (cells .entry)) (V·Fields .place (now (fields .entry)))) ⌝ }
 {
-    let mut values = [0; 13];
     let mut next = at;
     for (i, field) in lead.iter().enumerate() {
         let range = range_of(field.test, &values[0..i]);
@@ -97,29 +90,30 @@ fn leads<V: Fields>(
         values[i] = value;
         next = store(cells, next, value);
     }
-    Ok((values, next))
+    Ok(next)
 }
 
-// A line: its kind, its leading fields, `count` fields like `rest` and its end. The leading values are told too.
+// A line: its kind, its leading fields, `count` fields like `rest` and its end. The leading values go to `values` too.
 fn line<V: Fields>(
     fields: &mut V,
     kind: u8,
     lead: &[Field],
     rest: Field,
     count: u16,
+    values: &mut [i32],
     cells: &mut [i32],
     at: usize,
-) -> Result<([i32; 13], usize), V::Fault>
-    requires { ⌜ length (now lead) ≤ 13 ⌝ }
+) -> Result<usize, V::Fault>
+    requires { ⌜ length (now lead) ≤ length (now values) ⌝ }
     ensures same { λ _. ⌜ V·Fields .supply (now (fields .exit)) ≡ V·Fields .supply (now (fields .entry)) ⌝ }
-    ensures walked { λ r. ⌜ Led (length (now (lead .entry))) r (now (cells .exit)) (V·Fields .place (now (fields .exit))) (walking.line (V·Fields .supply (now (fields .entry))) put kind (now (lead .entry)) rest count (at, now (cells .entry)) (V·Fields .place (now (fields .entry)))) ⌝ }
+    ensures walked { λ r. ⌜ Led (length (now (lead .entry))) r (now (values .exit)) (now (cells .exit)) (V·Fields .place (now (fields .exit))) (walking.line (V·Fields .supply (now (fields .entry))) put kind (now (lead .entry)) rest count (at, now (cells .entry)) (V·Fields .place (now (fields .entry)))) ⌝ }
 {
     fields.kind(kind)?;
-    let (values, next) = leads(fields, lead, cells, at)?;
+    let next = leads(fields, lead, values, cells, at)?;
     let range = range_of(rest.test, &values[0..lead.len()]);
-    let last = run(fields, rest.digits, range, count, cells, next)?;
+    let last = fields.run(rest.digits, range, count, cells, next)?;
     fields.end()?;
-    Ok((values, last))
+    Ok(last)
 }
 
 fn frame_line<V: Fields>(
@@ -132,16 +126,8 @@ fn frame_line<V: Fields>(
     ensures walked { λ r. ⌜ Stored r (now (cells .exit)) (V·Fields .place (now (fields .exit))) (walking.frame (V·Fields .supply (now (fields .entry))) put (now (frame .entry)) (at, now (cells .entry)) (V·Fields .place (now (fields .entry)))) ⌝ }
 {
     let leads = frame.lead.len().min(frame.leads as usize);
-    let (_, next) = line(
-        fields,
-        frame.kind,
-        &frame.lead[0..leads],
-        frame.rest,
-        frame.count,
-        cells,
-        at,
-    )?;
-    Ok(next)
+    let mut values = [0; 4];
+    line(fields, frame.kind, &frame.lead[0..leads], frame.rest, frame.count, &mut values, cells, at)
 }
 
 // `times` lines of one sort.
@@ -329,6 +315,7 @@ pub(crate) fn head<V: Fields>(fields: &mut V, cells: &mut [i32]) -> Result<(Head
     ensures same { λ _. ⌜ V·Fields .supply (now (fields .exit)) ≡ V·Fields .supply (now (fields .entry)) ⌝ }
     ensures walked { λ r. ⌜ Headed r (now (cells .exit)) (V·Fields .place (now (fields .exit))) (walking.line (V·Fields .supply (now (fields .entry))) put head-kind head-fields unused 0 (0, now (cells .entry)) (V·Fields .place (now (fields .entry)))) ⌝ }
 {
-    let (values, next) = line(fields, 0x10, &HEAD_FIELDS, NO_FIELD, 0, cells, 0)?;
+    let mut values = [0; 13];
+    let next = line(fields, 0x10, &HEAD_FIELDS, NO_FIELD, 0, &mut values, cells, 0)?;
     Ok((head_of(&values), next))
 }

@@ -9,7 +9,7 @@ use Rattle.std.proofs.shelf.Lists.{take-all}
 use Rattle.std.proofs.str.Laws.{order}
 use Rattle.layout.specs.declared.field.Field.{Field}
 use Rattle.sheet.specs.Store.{put}
-use Rattle.sheet.proofs.Walking.{stops, frame-is}
+use Rattle.sheet.proofs.Walking.{frame-answers}
 use Rattle.sheet.proofs.walk.frame_line.Needs as need
 
 -- the slice of the leading fields
@@ -20,23 +20,12 @@ front lead leads n four e =
     (λ (all : 4 ≤ leads). take-all (n - 0) lead (omega arith) ∙ sym (take-all leads lead (omega arith)))
     (order leads 4)
 
-pub returns-in-Break-next : need.returns-in-Break-next
-returns-in-Break-next g c =
-    let f = c .args .frame .now in
-    let told = c .in-Break-next .ensures tt in
-    let lead = front (f .lead) (f .leads) (c .min-leads .result) (search needs) (c .min-leads .ensures) in
-    let stop = frame-is (g .V·Fields .supply (c .args .fields .now)) put f _ lead (c .args .at, c .args .cells .now) (g .V·Fields .place (c .args .fields .now)) (told .walked) in
-    record {
-      same = told .same;
-      walked = stops (λ n. ((n, c .line .last .cells), g .V·Fields .place (c .line .last .fields))) (c .from-residual .result) (c .from-residual .ensures .1) stop;
-    }
-
 pub returns : need.returns
 returns g c =
     let f = c .args .frame .now in
-    let told = c .in-Continue-next .ensures tt in
+    let told = c .line .ensures in
     let lead = front (f .lead) (f .leads) (c .min-leads .result) (search needs) (c .min-leads .ensures) in
     record {
       same = told .same;
-      walked = frame-is (g .V·Fields .supply (c .args .fields .now)) put f _ lead (c .args .at, c .args .cells .now) (g .V·Fields .place (c .args .fields .now)) (told .walked);
+      walked = frame-answers (g .V·Fields .supply (c .args .fields .now)) put f _ lead (c .args .at, c .args .cells .now) (g .V·Fields .place (c .args .fields .now)) _ (λ n. (n, c .line .last .cells)) (g .V·Fields .place (c .line .last .fields)) (c .line .result) (told .walked);
     }

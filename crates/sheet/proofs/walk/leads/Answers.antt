@@ -27,7 +27,7 @@ returns-in-Break-value g c =
     let stop = leads-stop (g .V·Fields .supply (c .args .fields .now)) put (c .loop-i .inv .1) (c .args .lead .now) (c .loop-i .i) unused (take (c .loop-i .i) (c .loop-i .values)) (omega arith) known (c .loop-i .next, c .loop-i .cells) (g .V·Fields .place (c .loop-i .fields)) (told .found) in
     record {
       same = told .same ∙ c .loop-i .inv .1;
-      walked = stops (λ a. (take (length (c .args .lead .now)) (a .0), (a .1, c .loop-i .cells), g .V·Fields .place (c .field .last .self))) (c .from-residual .result) (c .from-residual .ensures .1) (sym (c .loop-i .inv .2) ∙ stop);
+      walked = stops (λ n. (take (length (c .args .lead .now)) (c .loop-i .values), (n, c .loop-i .cells), g .V·Fields .place (c .field .last .self))) (c .from-residual .result) (c .from-residual .ensures .1) (sym (c .loop-i .inv .2) ∙ stop);
     }
 
 pub loop-i-again : need.loop-i-again
