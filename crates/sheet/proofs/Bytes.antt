@@ -1,15 +1,16 @@
 -- A byte at a place, and the digits from there.
-use mathlib.Core.Path.{_≡_, refl, sym, ap, _∙_}
+use mathlib.Core.Path.{_≡_, refl, sym, ap, subst, _∙_}
 use mathlib.Core.Bool.{Bool, true, false, cond}
-use mathlib.Core.List.{List, [], _∷_}
+use mathlib.Core.List.{List, [], _∷_, _++_}
 use Prim.Native.Nat.{ℕ, suc, _+_, _-_, _*_, _^_, _<_, _≤_}
-use native.Mathlib.Nat.{add-assoc, pow-suc, pow-le-pow-right}
+use native.Mathlib.Nat.{add-assoc, mod-eq-of-lt, pow-suc, pow-le-pow-right}
 use native.Mathlib.Numerals.{add-one}
 use native.Mathlib.Omega.{arith}
+use lib.Bits.{bitAnd, bitOr, or-add-and, and-le-l, and-le-r, and-mask}
 use lib.Dec.{lit<}
 use borrow.Author.Tests.{ne-eqb}
-use lib.ListN.{length, getD, drop}
-use Rattle.std.proofs.shelf.Lists.{at-drop-more, at-drop-all, drop-drop}
+use lib.ListN.{length, getD, take, drop, length-drop}
+use Rattle.std.proofs.shelf.Lists.{at-drop-more, at-drop-all, drop-drop, drop-more, length-take-le, take-append-drop}
 use Rattle.std.specs.declared.option.Option.{Option}
 use Rattle.std.specs.declared.option.Option.the-variants.{Some, None}
 use Rattle.std.specs.declared.result.Result.{Result}
@@ -20,7 +21,7 @@ use Rattle.layout.specs.declared.fault.FieldFault.the-variants.{Over, LineFeed,
 use Rattle.layout.specs.declared.fault.LineFault.the-variants.{NoLineFeed, Unended}
 use Rattle.layout.specs.Reading.{nibble, no-digit, digits, ahead, shift, line-end}
 use Rattle.layout.specs.Walk.{next}
-use Rattle.sheet.specs.Digit.{digit-of, one-digit}
+use Rattle.sheet.specs.Digit.{digit-of, one-digit, Whole}
 
 module _ (text : List ℕ) (p : Place) where
   pub digit-over : length text ≤ p .byte → one-digit (drop (p .byte) text) p ≡ Err (Over p)
@@ -86,3 +87,36 @@ module _ (text : List ℕ) (p : Place) where
 
   pub end-other : p .byte < length text → (getD text (p .byte) 0 ≡ 10 → ⊥) → line-end (drop (p .byte) text) p ≡ Err (NoLineFeed p)
   end-other h e = at-drop-more (λ l. line-end l p) text (p .byte) 0 h ∙ ap (λ t. cond t (Ok (record { line = p .line + 1; byte = p .byte + 1 })) (Err (NoLineFeed p))) (ne-eqb (getD text (p .byte) 0) 10 e)
+
+-- one byte of several that may all be digits
+pub part-more : (part more : List ℕ) (i v d : ℕ) (p : Place) → i < length part → nibble (getD part i 0) ≡ Some d → digits (length part - i) v (drop i part ++ more) (ahead p i) ≡ digits (length part - (i + 1)) (v * 16 + d) (drop (i + 1) part ++ more) (ahead p (i + 1))
+part-more part more i v d p here e =
+    let left : length part - i ≡ suc (length part - (i + 1)) = omega arith in
+    ap (λ n. digits n v (drop i part ++ more) (ahead p i)) left
+    ∙ ap (λ l. digits (suc (length part - (i + 1))) v (l ++ more) (ahead p i)) (drop-more part i 0 here)
+    ∙ ap (λ o. next (shift v (getD part i 0) (ahead p i) o) (λ w. digits (length part - (i + 1)) w (drop (i + 1) part ++ more) (ahead (ahead p i) 1))) e
+    ∙ ap (digits (length part - (i + 1)) (v * 16 + d) (drop (i + 1) part ++ more)) (ahead-more p i 1 refl refl)
+
+-- neither of two numbers passes what both together stay below
+pub or-small : (a b : ℕ) → bitOr a b < 16 → (a < 16) × (b < 16)
+or-small a b h = (omega (arith, or-add-and a b, and-le-r a b), omega (arith, or-add-and a b, and-le-l a b))
+
+pub low-digit : (d : ℕ) → d < 16 → bitAnd d 15 ≡ d
+low-digit d h = and-mask d 4 ∙ mod-eq-of-lt h
+
+-- the bytes from a place on, all digits
+module _ (text : List ℕ) (p : Place) (count v : ℕ) (inside : p .byte ≤ length text) (here : count ≤ length text - p .byte) (whole : Whole (take (p .byte + count - p .byte) (drop (p .byte) text)) (Some v)) where
+  front : take (p .byte + count - p .byte) (drop (p .byte) text) ≡ take count (drop (p .byte) text)
+  front = ap (λ n. take n (drop (p .byte) text)) (omega arith)
+
+  long : length (take (p .byte + count - p .byte) (drop (p .byte) text)) ≡ count
+  long = ap length front ∙ length-take-le count (drop (p .byte) text) (simp length-drop (omega arith))
+
+  pub fast-small : v < 16 ^ count
+  fast-small = subst (λ n. v < 16 ^ n) long (whole .0)
+
+  pub fast-digits : digits count 0 (drop (p .byte) text) p ≡ Ok v
+  fast-digits =
+      ap (λ n. digits n 0 (drop (p .byte) text) p) (sym long)
+      ∙ ap (λ l. digits (length (take (p .byte + count - p .byte) (drop (p .byte) text))) 0 l p) (sym (ap (λ l. l ++ drop count (drop (p .byte) text)) front ∙ take-append-drop count (drop (p .byte) text)))
+      ∙ whole .1 (drop count (drop (p .byte) text)) p

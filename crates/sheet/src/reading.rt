@@ -3,11 +3,12 @@ ghost use mathlib.Core.Path.{_≡_};
 ghost use denote.Ref.{now};
 ghost use Prim.Native.Nat.{_+_, _<_, _≤_, _^_};
 ghost use lib.ListN.{length, drop};
+ghost use Rattle.std.specs.Options.{valueOr};
 ghost use Rattle.std.specs.Results.{Cases};
 ghost use Rattle.layout.specs.Reading as bytes;
 ghost use Rattle.layout.specs.Text.{digits-of};
 ghost use Rattle.layout.proofs.CheckLaw.{text-lawful};
-ghost use Rattle.sheet.specs.Digit.{one-digit};
+ghost use Rattle.sheet.specs.Digit.{one-digit, Whole};
 use crate::reader::Reader;
 use crate::tests_of::passes_in;
 use crate::walk::Fields;
@@ -18,26 +19,45 @@ use layout::fault::Place;
 use layout::field::Digits;
 use layout::field::Range;
 
-// The value of a digit's byte.
-fn nibble(b: u8) -> Option<u8>
-    ensures { λ r. ⌜ r ≡ bytes.nibble b ⌝ }
+// The value of each digit's byte, and 255 for every other byte.
+const NIBBLES: [u8; 256] = [
+    255, 255, 255, 255, 255, 255, 255, 255, 255, 255, 255, 255, 255, 255, 255, 255,
+    255, 255, 255, 255, 255, 255, 255, 255, 255, 255, 255, 255, 255, 255, 255, 255,
+    255, 255, 255, 255, 255, 255, 255, 255, 255, 255, 255, 255, 255, 255, 255, 255,
+    0, 1, 2, 3, 4, 5, 6, 7, 8, 9, 255, 255, 255, 255, 255, 255,
+    255, 10, 11, 12, 13, 14, 15, 255, 255, 255, 255, 255, 255, 255, 255, 255,
+    255, 255, 255, 255, 255, 255, 255, 255, 255, 255, 255, 255, 255, 255, 255, 255,
+    255, 255, 255, 255, 255, 255, 255, 255, 255, 255, 255, 255, 255, 255, 255, 255,
+    255, 255, 255, 255, 255, 255, 255, 255, 255, 255, 255, 255, 255, 255, 255, 255,
+    255, 255, 255, 255, 255, 255, 255, 255, 255, 255, 255, 255, 255, 255, 255, 255,
+    255, 255, 255, 255, 255, 255, 255, 255, 255, 255, 255, 255, 255, 255, 255, 255,
+    255, 255, 255, 255, 255, 255, 255, 255, 255, 255, 255, 255, 255, 255, 255, 255,
+    255, 255, 255, 255, 255, 255, 255, 255, 255, 255, 255, 255, 255, 255, 255, 255,
+    255, 255, 255, 255, 255, 255, 255, 255, 255, 255, 255, 255, 255, 255, 255, 255,
+    255, 255, 255, 255, 255, 255, 255, 255, 255, 255, 255, 255, 255, 255, 255, 255,
+    255, 255, 255, 255, 255, 255, 255, 255, 255, 255, 255, 255, 255, 255, 255, 255,
+    255, 255, 255, 255, 255, 255, 255, 255, 255, 255, 255, 255, 255, 255, 255, 255,
+];
+
+fn nibble(b: u8) -> u8
+    ensures { λ r. ⌜ r ≡ valueOr (bytes.nibble b) 255 ⌝ }
 {
-    match b {
-        48..=57 => Some(b - 48),
-        65..=70 => Some(b - 55),
-        _ => None,
-    }
+    NIBBLES[b as usize]
 }
 
-fn digit_count(digits: Digits) -> u8
-    ensures { λ r. ⌜ r ≡ digits-of digits ⌝ ∗ ⌜ r ≤ 8 ⌝ }
+// The number of a few digits, if every byte is one. No byte is judged by itself, which is what makes it fast.
+fn all_digits(part: &[u8]) -> Option<u32>
+    requires { ⌜ length (now part) ≤ 8 ⌝ }
+    ensures { λ r. ⌜ Whole (now (part .entry)) r ⌝ }
 {
-    match digits {
-        Digits::Two => 2,
-        Digits::Four => 4,
-        Digits::Eight => 8,
-        Digits::Value => 8,
+    let mut value = 0;
+    let mut seen = 0;
+    for b in part {
+        let digit = nibble(*b);
+        seen |= digit;
+        value = value * 16 + (digit & 15) as u32;
     }
+    if seen < 16 { Some(value) } else { None }
 }
 
 // The number that the digits stand for.
@@ -73,17 +93,16 @@ impl<'a> Reader<'a> {
             return Err(FieldFault::Over(self.place));
         }
         let b = self.text[at];
-        match nibble(b) {
-            Some(d) => {
-                self.place.byte = at + 1;
-                Ok(d)
-            }
-            None if b == 10 => Err(FieldFault::LineFeed(self.place)),
-            None => Err(FieldFault::NoDigit(self.place)),
+        let digit = nibble(b);
+        if digit < 16 {
+            self.place.byte = at + 1;
+            return Ok(digit);
         }
+        if b == 10 { Err(FieldFault::LineFeed(self.place)) } else { Err(FieldFault::NoDigit(self.place)) }
     }
 
-    fn digits(&mut self, count: u8) -> Result<u32, FieldFault>
+    // Digits one by one, up to the first byte that is none.
+    fn judged_digits(&mut self, count: u8) -> Result<u32, FieldFault>
         requires { ⌜ count ≤ 8 ⌝ }
         ensures same { λ _. ⌜ now (self .exit) .text ≡ now (self .entry) .text ⌝ }
         ensures read { λ r. ⌜ r ≡ bytes.digits count 0 (drop (now (self .entry) .place .byte) (now (now (self .entry) .text))) (now (self .entry) .place) ⌝ }
@@ -97,6 +116,38 @@ impl<'a> Reader<'a> {
         Ok(value)
     }
 
+    fn digits(&mut self, count: u8) -> Result<u32, FieldFault>
+        requires { ⌜ count ≤ 8 ⌝ }
+        ensures same { λ _. ⌜ now (self .exit) .text ≡ now (self .entry) .text ⌝ }
+        ensures read { λ r. ⌜ r ≡ bytes.digits count 0 (drop (now (self .entry) .place .byte) (now (now (self .entry) .text))) (now (self .entry) .place) ⌝ }
+        ensures behind { λ r. ⌜ Cases r (λ v. (v < 16 ^ count) × (now (self .exit) .place ≡ bytes.ahead (now (self .entry) .place) count)) (λ _. Unit {0}) ⌝ }
+    {
+        let at = self.place.byte;
+        let size = count as usize;
+        if size <= self.text.len() - at {
+            let end = at + size;
+            if let Some(value) = all_digits(&self.text[at..end]) {
+                self.place.byte = end;
+                return Ok(value);
+            }
+        }
+        self.judged_digits(count)
+    }
+
+    // A field's digits. Each count is a constant, so that its loop can be unrolled.
+    fn raw(&mut self, digits: Digits) -> Result<u32, FieldFault>
+        ensures same { λ _. ⌜ now (self .exit) .text ≡ now (self .entry) .text ⌝ }
+        ensures read { λ r. ⌜ r ≡ bytes.digits (digits-of digits) 0 (drop (now (self .entry) .place .byte) (now (now (self .entry) .text))) (now (self .entry) .place) ⌝ }
+        ensures behind { λ r. ⌜ Cases r (λ v. (v < 16 ^ digits-of digits) × (now (self .exit) .place ≡ bytes.ahead (now (self .entry) .place) (digits-of digits))) (λ _. Unit {0}) ⌝ }
+    {
+        match digits {
+            Digits::Two => self.digits(2),
+            Digits::Four => self.digits(4),
+            Digits::Eight => self.digits(8),
+            Digits::Value => self.digits(8),
+        }
+    }
+
     // A field: its digits, then the test of its value.
     fn take_field(&mut self, digits: Digits, range: Range) -> Result<i32, FieldFault>
         ensures same { λ _. ⌜ now (self .exit) .text ≡ now (self .entry) .text ⌝ }
@@ -104,7 +155,7 @@ impl<'a> Reader<'a> {
         ensures behind { λ r. ⌜ Cases r (λ _. now (self .exit) .place ≡ bytes.ahead (now (self .entry) .place) (digits-of digits)) (λ _. Unit {0}) ⌝ }
     {
         let start = self.place;
-        let raw = self.digits(digit_count(digits))?;
+        let raw = self.raw(digits)?;
         let value = number_of(digits, raw);
         if passes_in(digits, range, value) {
             Ok(value as i32)

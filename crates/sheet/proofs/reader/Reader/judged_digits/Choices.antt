@@ -2,7 +2,7 @@ use Prim.Native.Nat.{_-_, _^_, _<_}
 use mathlib.Core.Path.{_≡_}
 use lib.ListN.{drop}
 use Rattle.layout.specs.Reading.{digits, ahead}
-use Rattle.sheet.proofs.reader.Reader.digits.Given as given
+use Rattle.sheet.proofs.reader.Reader.judged_digits.Given as given
 
 -- what is left of the digits gives the answer
 abbrev pub Inv-loop : given.InvT-loop
