@@ -18,12 +18,7 @@ use Rattle.layout.proofs.Count.{all-counted}
 use Rattle.layout.proofs.Natural.{seen-whole, read-seen}
 use Rattle.layout.proofs.ReadLaw.{read-exactly}
 use Rattle.sheet.specs.Outcomes.{Read}
-use Rattle.sheet.specs.Store.{Store, put, Answers}
-
--- values put one after the other
-abbrev puts : Store → List ℤ → Store
-puts s [] = s
-puts s (v ∷ vs) = puts (put s v) vs
+use Rattle.sheet.specs.Store.{Store, put, puts, Answers}
 
 puts-append : (s : Store) (vs : List ℤ) (v : ℤ) → puts s (vs ++ v ∷ []) ≡ put (puts s vs) v
 puts-append s [] v = refl

@@ -1,3 +1,4 @@
 pub mod Digit
 pub mod Outcomes
+pub mod Span
 pub mod Store

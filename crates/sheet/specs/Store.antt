@@ -21,6 +21,11 @@ Store = ℕ × List ℤ
 abbrev pub put : Store → ℤ → Store
 put s v = (cond (ltb (s .0) (length (s .1))) (s .0 + 1) (s .0), set (s .1) (s .0) v)
 
+-- values go in one after the other
+abbrev pub puts : Store → List ℤ → Store
+puts s [] = s
+puts s (v ∷ vs) = puts (put s v) vs
+
 -- a result with what is left behind an Ok; an Err is the fault alone
 abbrev pub Answers : {T A E : Type 0} → (T → A) → Result T E → Result A E → Type 0
 Answers left (Ok t) x = x ≡ Ok (left t)

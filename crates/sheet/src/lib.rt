@@ -1,5 +1,6 @@
 // Reads the text of a sheet into cells, opens a list of cells, and tells dossiers cell by cell.
 mod checker;
+mod checking;
 mod due;
 pub mod opening;
 pub mod read;

@@ -4,7 +4,7 @@ ghost use denote.Ref.{now};
 ghost use Rattle.layout.specs.Cases.{run-down-cells};
 ghost use Rattle.layout.specs.Cells.{well-formed};
 ghost use Rattle.sheet.specs.Outcomes.{verdict, Opened};
-use crate::checker::CellFields;
+use crate::checking::CellFields;
 use crate::checker::Checker;
 use crate::sheet::Sheet;
 use crate::source::RUN_DOWN;

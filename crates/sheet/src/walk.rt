@@ -60,7 +60,7 @@ pub(crate) trait Fields {
 }
 
 // Puts a value into the next free cell, if there is one, and tells the one after it.
-fn store(cells: &mut [i32], at: usize, value: i32) -> usize
+pub(crate) fn store(cells: &mut [i32], at: usize, value: i32) -> usize
     ensures { λ r. ⌜ (r, now (cells .exit)) ≡ put (at, now (cells .entry)) value ⌝ }
 {
     if at < cells.len() {

@@ -9,7 +9,7 @@ use Rattle.std.proofs.shelf.Signed.{toZ-ofZ}
 use Rattle.std.specs.declared.result.Result.the-variants.{Ok}
 use Rattle.layout.specs.Reading.{ahead}
 use Rattle.sheet.proofs.Listed.{cell-past, cell-there}
-use Rattle.sheet.proofs.checker.CellFields.field.Needs as need
+use Rattle.sheet.proofs.checking.CellFields.field.Needs as need
 
 pub returns-then-at-self : need.returns-then-at-self
 returns-then-at-self c = let s = c .args .self .now in record { same = refl; found = cell-past (s .list .now) (c .args .digits) (c .args .range) (s .place) (omega arith) }

@@ -1,0 +1,2 @@
+-- What the program's own dossier source means.
+pub mod Dossiers
