@@ -1,0 +1,10 @@
+pub mod Admission
+pub mod Cases
+pub mod Dossier
+pub mod Kinds
+pub mod Laws
+pub mod Lines
+pub mod Ranges
+pub mod Refusals
+pub mod Rows
+pub mod Runs
