@@ -1,10 +1,10 @@
 -- Rows as the code holds them: seven numbers, a constant and up to six coefficients.
-use mathlib.Core.List.{List, [], _∷_, map}
-use Prim.Native.Nat.{ℕ, _<_}
-use lib.Dec.{T}
+use mathlib.Core.List.{List, [], map}
+use mathlib.Core.Path.{_≡_}
+use Prim.Native.Nat.{ℕ, _<_, _≤_}
 use lib.IntN.{ℤ, pos, negsuc}
 use lib.ListN.{length, getD}
-use Rattle.layout.specs.Cells.{between}
+use lib.Signed.{_≤ℤ_}
 use Rattle.dossier.specs.Rows.{Row}
 
 abbrev pub row-of : List ℤ → Row
@@ -13,18 +13,20 @@ row-of numbers j = getD numbers j (pos 0)
 abbrev pub rows-of : List (List ℤ) → List Row
 rows-of rows = map row-of rows
 
--- a multiplier or a divisor
-abbrev pub Factor : ℤ → Type 0
-Factor m = T (between (pos 0) (pos 1048575) m)
+-- multipliers of a line
+abbrev pub Factors : List ℤ → Type 0
+Factors ms = (k : ℕ) → k < length ms → (pos 0 ≤ℤ getD ms k (pos 0)) × (getD ms k (pos 0) ≤ℤ pos 1048575)
 
 -- every number of a row is small enough that sums of products stay exact
 abbrev pub Moderate : List ℤ → Type 0
-Moderate row = (j : ℕ) → T (between (negsuc 131071) (pos 131071) (getD row j (pos 0)))
-
-abbrev pub All-factors : List ℤ → Type 0
-All-factors [] = Unit {0}
-All-factors (m ∷ ms) = Factor m × All-factors ms
+Moderate row = (j : ℕ) → (negsuc 131071 ≤ℤ getD row j (pos 0)) × (getD row j (pos 0) ≤ℤ pos 131072)
 
 abbrev pub All-moderate : List (List ℤ) → Type 0
-All-moderate [] = Unit {0}
-All-moderate (r ∷ rs) = Moderate r × All-moderate rs
+All-moderate rows = (k : ℕ) → k < length rows → Moderate (getD rows k [])
+
+-- hypotheses with a multiplier each, at most eighteen
+pub record Weighted (ms : List ℤ) (rows : List (List ℤ)) : Type 0 where
+  pub long : length ms ≡ length rows
+  pub few : length ms ≤ 18
+  pub factors : Factors ms
+  pub moderate : All-moderate rows

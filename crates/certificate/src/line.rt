@@ -6,7 +6,7 @@ ghost use lib.ListN.{length};
 ghost use lib.Signed.{_≤ℤ_};
 
 ghost use Rattle.dossier.specs.Lines.{sums};
-ghost use Rattle.certificate.specs.Arrays.{row-of, rows-of, Factor, Moderate, All-factors, All-moderate};
+ghost use Rattle.certificate.specs.Arrays.{rows-of, Weighted};
 
 pub(crate) type Row = [i64; 7];
 
@@ -16,4 +16,17 @@ fn product(multiplier: i64, number: i64) -> i64
     ensures { λ r. ⌜ r ≡ multiplier *ℤ number ⌝ ∗ ⌜ (negsuc 137438953471 ≤ℤ r) × (r ≤ℤ pos 137438953472) ⌝ }
 {
     multiplier * number
+}
+
+// The sum of multipliers times hypotheses, in a column.
+fn column_sum(multipliers: &[i64], hypotheses: &[[i64; 7]], column: usize) -> i64
+    requires { ⌜ column < 7 ⌝ ∗ ⌜ Weighted (now multipliers) (now hypotheses) ⌝ }
+    ensures { λ r. ⌜ r ≡ sums (now (multipliers .entry)) (rows-of (now (hypotheses .entry))) column ⌝ ∗ ⌜ (negsuc 2473901162495 ≤ℤ r) × (r ≤ℤ pos 2473901162496) ⌝ }
+{
+    let mut sum = 0;
+    for k in 0..multipliers.len() {
+        let term = product(multipliers[k], hypotheses[k][column]);
+        sum += term;
+    }
+    sum
 }

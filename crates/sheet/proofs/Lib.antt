@@ -5,4 +5,5 @@ pub mod Listed
 pub mod Nibbles
 pub mod Passing
 pub mod Products
+pub mod Runs
 pub mod Walking

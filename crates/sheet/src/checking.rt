@@ -1,7 +1,6 @@
 // The fields of a list of cells. Kinds and line ends are not written there.
 ghost use mathlib.Core.Path.{_≡_};
 ghost use denote.Ref.{now};
-ghost use Prim.Native.Nat.{_≤_};
 ghost use lib.IntN.{ℤ};
 ghost use lib.ListN.{length};
 ghost use mir.Syntax.{w32};

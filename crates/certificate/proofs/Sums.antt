@@ -1,0 +1,20 @@
+-- Sums of products, one hypothesis after the other.
+use mathlib.Core.Path.{_≡_, sym, ap, _∙_}
+use mathlib.Core.List.{List, [], _∷_}
+use Prim.Native.Nat.{ℕ, _+_, _<_, _≤_}
+use lib.IntN.{ℤ, pos, _+ℤ_, _*ℤ_, +ℤ-assoc, +ℤ-idr}
+use lib.ListN.{length, getD, drop}
+use Rattle.std.proofs.shelf.Lists.{drop-more, drop-all}
+use Rattle.dossier.specs.Lines.{sums}
+use Rattle.certificate.specs.Arrays.{rows-of}
+
+module _ (ms : List ℤ) (rows : List (List ℤ)) (j k : ℕ) where
+  pub sums-more : (s t : ℤ) → k < length ms → k < length rows → t ≡ getD ms k (pos 0) *ℤ getD (getD rows k []) j (pos 0) → s +ℤ sums (drop k ms) (rows-of (drop k rows)) j ≡ (s +ℤ t) +ℤ sums (drop (k + 1) ms) (rows-of (drop (k + 1) rows)) j
+  sums-more s t here there e =
+      ap (λ l. s +ℤ sums l (rows-of (drop k rows)) j) (drop-more ms k (pos 0) here)
+      ∙ ap (λ l. s +ℤ sums (getD ms k (pos 0) ∷ drop (k + 1) ms) (rows-of l) j) (drop-more rows k [] there)
+      ∙ ap (λ x. s +ℤ (x +ℤ sums (drop (k + 1) ms) (rows-of (drop (k + 1) rows)) j)) (sym e)
+      ∙ sym (+ℤ-assoc s t (sums (drop (k + 1) ms) (rows-of (drop (k + 1) rows)) j))
+
+  pub sums-done : (s : ℤ) → length ms ≤ k → s +ℤ sums (drop k ms) (rows-of (drop k rows)) j ≡ s
+  sums-done s over = ap (λ l. s +ℤ sums l (rows-of (drop k rows)) j) (drop-all k ms over) ∙ +ℤ-idr s
