@@ -1,18 +1,18 @@
 -- Bounds of products and sums of whole numbers.
-use Prim.Native.Nat.{suc}
+use Prim.Native.Nat.{ℕ, suc, _*_}
 use native.Mathlib.Omega.{arith}
-use lib.IntN.{ℤ, pos, negsuc, _*ℤ_}
+use lib.IntN.{ℤ, pos, negsuc, negℤ, _*ℤ_}
 use lib.Signed.{_≤ℤ_}
 use mir.Syntax.{w64}
 use mir.Val.{SFits}
 use Rattle.std.proofs.shelf.Bits.{mul-le}
 use Rattle.std.proofs.shelf.Signed.{ints}
 
--- a multiplier times a number of a hypothesis
-pub product-bounds : (m h : ℤ) → pos 0 ≤ℤ m → m ≤ℤ pos 1048575 → negsuc 131071 ≤ℤ h → h ≤ℤ pos 131072 → (negsuc 137438953471 ≤ℤ (m *ℤ h)) × ((m *ℤ h) ≤ℤ pos 137438953472)
-product-bounds (pos a) (pos b) lo hi lo′ hi′ = let most = mul-le a b 1048575 131072 (omega (arith, ints)) (omega (arith, ints)) in (omega (arith, ints), omega (arith, ints))
-product-bounds (pos a) (negsuc b) lo hi lo′ hi′ = let most = mul-le a (suc b) 1048575 131072 (omega (arith, ints)) (omega (arith, ints)) in (omega (arith, ints), omega (arith, ints))
-product-bounds (negsuc a) h lo hi lo′ hi′ = absurd (omega (arith, ints))
+-- a multiplier or a divisor times a number of at most `most`
+pub product-bounds : (most : ℕ) (m h : ℤ) → pos 0 ≤ℤ m → m ≤ℤ pos 1048575 → negℤ (pos most) ≤ℤ h → h ≤ℤ pos most → (negℤ (pos (1048576 * most)) ≤ℤ (m *ℤ h)) × ((m *ℤ h) ≤ℤ pos (1048576 * most))
+product-bounds most (pos a) (pos b) lo hi lo′ hi′ = let up = mul-le a b 1048576 most (omega (arith, ints)) (omega (arith, ints)) in (omega (arith, ints), omega (arith, ints))
+product-bounds most (pos a) (negsuc b) lo hi lo′ hi′ = let up = mul-le a (suc b) 1048576 most (omega (arith, ints)) (omega (arith, ints)) in (omega (arith, ints), omega (arith, ints))
+product-bounds most (negsuc a) h lo hi lo′ hi′ = absurd (omega (arith, ints))
 
 -- a number within these bounds fits 64 bits
 pub fits-64 : (z : ℤ) → negsuc 9223372036854775807 ≤ℤ z → z ≤ℤ pos 9223372036854775807 → SFits w64 z

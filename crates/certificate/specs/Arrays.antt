@@ -30,3 +30,7 @@ pub record Weighted (ms : List ℤ) (rows : List (List ℤ)) : Type 0 where
   pub few : length ms ≤ 18
   pub factors : Factors ms
   pub moderate : All-moderate rows
+
+-- the numbers of a conclusion, which may be sums of products themselves
+abbrev pub Wide : List ℤ → Type 0
+Wide row = (j : ℕ) → (negsuc 34359738367 ≤ℤ getD row j (pos 0)) × (getD row j (pos 0) ≤ℤ pos 34359738368)

@@ -9,14 +9,14 @@ use Rattle.certificate.proofs.line.product.Needs as need
 
 pub mul-result : need.mul-result
 mul-result c =
-    let b = product-bounds (c .args .multiplier) (c .args .number) (c .pre .0 .0) (c .pre .0 .1) (c .pre .1 .0) (c .pre .1 .1) in
+    let b = product-bounds 131072 (c .args .multiplier) (c .args .number) (c .pre .0 .0) (c .pre .0 .1) (c .pre .1 .0) (c .pre .1 .1) in
     let m : SFits w64 (c .args .multiplier) = c .fits .multiplier in
     let n : SFits w64 (c .args .number) = c .fits .number in
     simp toZ-ofZ (fits-64 (c .args .multiplier *ℤ c .args .number) (omega (arith, ints)) (omega (arith, ints)))
 
 pub returns : need.returns
 returns c =
-    let b = product-bounds (c .args .multiplier) (c .args .number) (c .pre .0 .0) (c .pre .0 .1) (c .pre .1 .0) (c .pre .1 .1) in
+    let b = product-bounds 131072 (c .args .multiplier) (c .args .number) (c .pre .0 .0) (c .pre .0 .1) (c .pre .1 .0) (c .pre .1 .1) in
     let m : SFits w64 (c .args .multiplier) = c .fits .multiplier in
     let n : SFits w64 (c .args .number) = c .fits .number in
     let f = fits-64 (c .args .multiplier *ℤ c .args .number) (omega (arith, ints)) (omega (arith, ints)) in
