@@ -1,3 +1,4 @@
 pub mod Agree
 pub mod Bounds
+pub mod Fill
 pub mod Sums

@@ -34,3 +34,7 @@ pub record Weighted (ms : List ℤ) (rows : List (List ℤ)) : Type 0 where
 -- the numbers of a conclusion, which may be sums of products themselves
 abbrev pub Wide : List ℤ → Type 0
 Wide row = (j : ℕ) → (negsuc 34359738367 ≤ℤ getD row j (pos 0)) × (getD row j (pos 0) ≤ℤ pos 34359738368)
+
+-- the numbers of a row as a sheet has them
+abbrev pub Short : List ℤ → Type 0
+Short row = (j : ℕ) → (negsuc 32767 ≤ℤ getD row j (pos 0)) × (getD row j (pos 0) ≤ℤ pos 32767)

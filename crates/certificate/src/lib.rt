@@ -1,4 +1,5 @@
 // Rank kinds, and the admission of dossiers of any source at any rank kind.
+mod cells;
 pub mod kind;
 mod line;
-mod offset;
+

@@ -1,6 +1,15 @@
 pub mod CellRanges
+pub mod EdgeRows
+pub mod EveryRun
 pub mod Integers
 pub mod KindsLaw
 pub mod LineLaw
+pub mod Masks
+pub mod Moves
+pub mod RowValues
+pub mod RunFacts
+pub mod RunLaws
+pub mod SomeRun
 pub mod Standing
+pub mod Trials
 pub mod Worked
