@@ -127,9 +127,12 @@ module _ (cells : List ℤ) where
   found None = false
   found (Some e) = true
 
-  -- every watch state with every letter
+  -- a watch state with every letter, and every watch state
+  abbrev pub state-trials : ℕ → List Trial
+  state-trials q = each (2 ^ head cells .propositions) (λ l. record { passes = found (edge-for q l); fault = NoEdge q l })
+
   abbrev pub watch-trials : List Trial
-  watch-trials = joined (λ q. each (2 ^ head cells .propositions) (λ l. record { passes = found (edge-for q l); fault = NoEdge q l })) (each (head cells .states) (λ q. q))
+  watch-trials = joined state-trials (each (head cells .states) (λ q. q))
 
   abbrev pub start-conclusions : List Row
   start-conclusions = point-hypotheses (start-point cells)
