@@ -1,4 +1,5 @@
 use mathlib.Core.Path.{_≡_, refl, sym, ap, subst, _∙_}
+use mathlib.Core.List.{List}
 use Prim.Native.Nat.{ℕ, _+_, _-_}
 use native.Mathlib.Omega.{arith}
 use lib.IntN.{ℤ, pos}
@@ -11,12 +12,15 @@ use Rattle.std.proofs.shelf.Signed.{ints, toZ-ofZ}
 use Rattle.layout.proofs.Count.{both-left, both-right}
 use Rattle.dossier.specs.Dossier as view
 use Rattle.dossier.specs.Lines.{line-holds}
-use Rattle.dossier.specs.Rows.{each}
+use Rattle.dossier.specs.Rows.{Row, each}
 use Rattle.certificate.specs.Arrays.{row-of, rows-of, Weighted}
 use Rattle.certificate.proofs.Fill.{filled-more}
 use Rattle.certificate.proofs.Weights.{filled-slice, weighted}
 use Rattle.certificate.proofs.judge.judge.Given as given
 use Rattle.certificate.proofs.judge.judge.Needs as need
+
+same-line : (hs : List Row) (r : Row) {v v′ : ℕ} {d d′ : ℤ} {ms ms′ : List ℤ} → v ≡ v′ → d ≡ d′ → ms ≡ ms′ → line-holds v d ms hs r ≡ line-holds v′ d′ ms′ hs r
+same-line hs r p q e i = line-holds (p i) (q i) (e i) hs r
 
 pub loop-k-again : need.loop-k-again
 loop-k-again g c =
@@ -58,7 +62,4 @@ returns g c =
     let divisor : toZ w64 (ofZ w64 (toZ w32 (ofZ w32 (c .cell-divisor .result)))) ≡ view.cell cells (c .args .at) = simp toZ-ofZ (c .cell-divisor .ensures) in
     let hs = rows-of (c .args .hypotheses .now) in
     let r = row-of (c .args .conclusion .now) in
-    c .line-holds .ensures
-    ∙ ap (λ v. line-holds v _ _ hs r) (ap (λ h. h .variables) (c .pre .0 .0))
-    ∙ ap (λ ms. line-holds (view.head cells .variables) _ ms hs r) slice
-    ∙ ap (λ d. line-holds (view.head cells .variables) d (each n (λ k. view.cell cells (c .args .at + 1 + k))) hs r) divisor
+    c .line-holds .ensures ∙ same-line hs r (ap (λ h. h .variables) (c .pre .0 .0)) divisor slice
