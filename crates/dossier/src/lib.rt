@@ -2,3 +2,4 @@
 // laws are in specs/ and proofs/; the code here is what they speak of.
 pub mod fall;
 pub mod fault;
+pub mod refusal;
