@@ -1,15 +1,18 @@
 -- The ranges of a well-formed list's cells, part by part.
-use mathlib.Core.Path.{_≡_, refl, ap, subst}
+use mathlib.Core.Path.{_≡_, refl, ap, subst, _∙_}
 use mathlib.Core.Logic.{inl, inr}
 use mathlib.Core.Bool.{true, cond}
 use mathlib.Core.List.{List, [], _∷_}
 use Prim.Native.Nat.{ℕ, zero, suc, _+_, _-_, _*_, _^_, _≤_, _<_, suc-le-suc}
-use native.Mathlib.Nat.{add-mul, suc-mul, mul-le-mul-right}
+use native.Mathlib.Nat.{add-mul}
 use native.Mathlib.Omega.{arith}
-use lib.Dec.{T, eqb, leb, leb→le, lit<}
+use lib.Arith.{digits-lt}
+use lib.Bits.{bitAnd}
+use lib.Dec.{T, eqb, leb, leb→le, eqb→eq, lit<}
 use lib.IntN.{ℤ, pos, negsuc}
 use lib.Pow.{pow-pos}
 use lib.ListN.{length, getD, take}
+use lib.Seq.{getD-take}
 use Rattle.std.proofs.shelf.Tests.{cases-lt}
 use Rattle.layout.specs.declared.field.Digits.the-variants.{Two, Four, Eight}
 use Rattle.layout.specs.declared.field.Test.the-variants.{ApartField}
@@ -19,7 +22,7 @@ use Rattle.layout.specs.Cells.{between, writable, holds, head-width, well-forme
 use Rattle.layout.proofs.Count.{both-left, both-right, formed, formed-ranges}
 use Rattle.dossier.specs.Dossier
 use Rattle.dossier.specs.Ranges.{Small, Small-row, Line, Program-ranges, Every-run-ranges, Some-run-ranges}
-use Rattle.dossier.proofs.Standing.{Held, standing, Pass, Following, grouped, repeated-held, led-by, lead-held, rest-held}
+use Rattle.dossier.proofs.Standing.{Held, standing, Pass, Following, grouped, repeated-held, led-by, led-value, lead-held, rest-held}
 
 at-most : (high : ℕ) (v : ℤ) → T (between (pos 0) (pos high) v) → countOf v ≤ high
 at-most high (pos n) t = leb→le n high (both-right (leb 0 n) _ t)
@@ -65,8 +68,12 @@ module _ (cells : List ℤ) where
   lead-under : (f : Frame) (n : ℕ) → Held cells f n → (i : ℕ) → i < length (leading f) → (k : ℕ) → getD (leading f) i unused ≡ one-of k → (m : ℕ) → m ≡ n + i → Dossier.number cells m < k
   lead-under f n held i l k is m e = under k (Dossier.cell cells m) (rw is at (lead-in f n held i l m e))
 
-  lead-apart : (f : Frame) (n : ℕ) → Held cells f n → (i : ℕ) → i < length (leading f) → (high index : ℕ) → getD (leading f) i unused ≡ record { digits = Two; test = ApartField (pos high) index } → (m : ℕ) → m ≡ n + i → Dossier.number cells m ≤ high
-  lead-apart f n held i l high index is m e = at-most high (Dossier.cell cells m) (both-left _ _ (rw is at (lead-in f n held i l m e)))
+  -- a mask, apart from the earlier value j, which stands at k
+  lead-apart : (f : Frame) (n : ℕ) → Held cells f n → (i : ℕ) → i < length (leading f) → (high j : ℕ) → getD (leading f) i unused ≡ record { digits = Two; test = ApartField (pos high) j } → j < i → (m k : ℕ) → m ≡ n + i → k ≡ n + j → (Dossier.number cells m ≤ high) × (bitAnd (Dossier.number cells m) (Dossier.number cells k) ≡ 0)
+  lead-apart f n held i l high j is b m k e d =
+      let t = rw is at (lead-in f n held i l m e) in
+      let same : getD (take i (led-by cells f n)) j (pos 0) ≡ Dossier.cell cells k = getD-take i (led-by cells f n) j (pos 0) b ∙ led-value cells f n j (omega arith) k d in
+      (at-most high (Dossier.cell cells m) (both-left _ _ t), rw same at (eqb→eq _ _ (both-right (between (pos 0) (pos high) (Dossier.cell cells m)) _ t)))
 
   -- numbers of four digits are small
   small-rest : (f : Frame) (n : ℕ) → f .rest .digits ≡ Four → Held cells f n → (i : ℕ) → i < f .count → (m : ℕ) → m ≡ n + length (leading f) + i → Small cells m
@@ -77,13 +84,10 @@ module _ (cells : List ℤ) where
   small-row h kind n held m e i l = small-rest (row h kind) n refl held i (omega arith) (m + i) (omega arith)
 
   line-ranges : (kind k n : ℕ) → Held cells (line kind k) n → Line cells n k
-  line-ranges kind k n held =
-      ( lead-in (line kind k) n held 0 (lit< tt) n (omega arith)
-      , λ i l. both-right (writable Eight (Dossier.cell cells (n + 1 + i))) _ (rest-held cells (line kind k) n held i l (n + 1 + i) refl))
-
--- place j of row i of v rows, each of w places
-within : (v w i j : ℕ) → i < v → j < w → i * w + j < v * w
-within v w i j l k = omega (arith, mul-le-mul-right w l, suc-mul i w)
+  line-ranges kind k n held = (
+    lead-in (line kind k) n held 0 (lit< tt) n (omega arith),
+    λ i l. both-right (writable Eight (Dossier.cell cells (n + 1 + i))) _ (rest-held cells (line kind k) n held i l (n + 1 + i) refl),
+  )
 
 -- a mask over n propositions
 masked : (k n : ℕ) → k ≤ 2 ^ n - 1 → k < 2 ^ n
@@ -100,20 +104,23 @@ module _ (cells : List ℤ) (e : well-formed cells ≡ true) where
   step-held t l = subst (Held cells (step h)) (omega arith) (made .steps t l .firsts 0 (lit< tt))
 
   updated : (t v : ℕ) → t < h .steps → v < h .variables → Small-row cells (Dossier.step-at h t + 2 + v * Dossier.row-width h)
-  updated t v l k j m = small-rest cells (step h) (Dossier.step-at h t) refl (step-held t l) (v * Dossier.row-width h + j) (within (h .variables) (Dossier.row-width h) v j k (omega arith)) _ (omega arith)
+  updated t v l k j m = small-rest cells (step h) (Dossier.step-at h t) refl (step-held t l) (v * Dossier.row-width h + j) (digits-lt k (omega arith)) _ (omega arith)
 
   guarded : (t g : ℕ) → t < h .steps → g < h .guards → Small-row cells (Dossier.step-at h t + 2 + (h .variables + g) * Dossier.row-width h)
   guarded t g l k = small-row cells h 0x31 _ (made .steps t l .seconds g k) _ (omega (arith, add-mul (h .variables) g (Dossier.row-width h)))
+
+  masks-held : (e : ℕ) → e < h .edges → (Dossier.must-not cells e ≤ 2 ^ h .propositions - 1) × (bitAnd (Dossier.must-not cells e) (Dossier.must cells e) ≡ 0)
+  masks-held e l = lead-apart cells (edge h) _ (made .edges e l) 3 (lit< tt) _ 2 refl (lit< tt) _ _ refl refl
 
   -- the region rows, then the rank rows
   pointed : (p r : ℕ) → p < Dossier.points h → r < point-rows h → Small-row cells (Dossier.point-at h p + r * Dossier.row-width h)
   pointed p r l k =
       elim (cases-lt r (h .region-rows)) [
-        inl m ↦ small-row cells h 0x60 _ (made .points p l .firsts r m) _ (omega arith)
-      | inr m ↦
-          let i = r - h .region-rows in
-          let is : r ≡ h .region-rows + i = omega arith in
-          small-row cells h 0x61 _ (made .points p l .seconds i (omega arith)) _ (omega (arith, add-mul (h .region-rows) i (Dossier.row-width h), ap (λ r. r * Dossier.row-width h) is))
+        | inl m ↦ small-row cells h 0x60 _ (made .points p l .firsts r m) _ (omega arith)
+        | inr m ↦
+            let i = r - h .region-rows in
+            let is : r ≡ h .region-rows + i = omega arith in
+            small-row cells h 0x61 _ (made .points p l .seconds i (omega arith)) _ (omega (arith, add-mul (h .region-rows) i (Dossier.row-width h), ap (λ r. r * Dossier.row-width h) is))
       ]
 
   pub program-ranges : Program-ranges cells
@@ -129,7 +136,8 @@ module _ (cells : List ℤ) (e : well-formed cells ≡ true) where
         edge-from = λ i l. lead-under cells (edge h) _ (made .edges i l) 0 (lit< tt) (h .states) refl _ (omega arith);
         edge-to = λ i l. lead-under cells (edge h) _ (made .edges i l) 1 (lit< tt) (h .states) refl _ refl;
         must = λ i l. masked _ (h .propositions) (lead-most cells (edge h) _ (made .edges i l) 2 (lit< tt) _ refl _ refl);
-        must-not = λ i l. masked _ (h .propositions) (lead-apart cells (edge h) _ (made .edges i l) 3 (lit< tt) _ 2 refl _ refl);
+        must-not = λ i l. masked _ (h .propositions) (masks-held i l .0);
+        apart = λ i l. masks-held i l .1;
         point-rows = pointed;
       }
 

@@ -4,15 +4,16 @@ use mathlib.Core.Bool.{Bool, true, false, cond, not}
 use mathlib.Core.List.{List}
 use Prim.Native.Nat.{ℕ, _^_, _<_}
 use lib.Bits.{bitAnd}
-use lib.Dec.{T, eqb}
+use lib.Dec.{T, eqb, eqb→eq}
 use lib.IntN.{ℤ}
 use Rattle.std.proofs.shelf.Bits.{and-comm}
-use Rattle.std.proofs.shelf.Tests.{eqb-true, eq-eqb, not-true}
+use Rattle.std.proofs.shelf.Tests.{eq-eqb, not-true}
+use Rattle.layout.proofs.Count.{both-left, both-right, both-from}
 use Rattle.dossier.specs.Rows.{Row, holds, zero-row, negated, less}
 use Rattle.dossier.specs.Dossier.{head, is-place, proposition-place, proposition-row, must, must-not, bit}
 use Rattle.dossier.specs.Runs.{proposition-holds, letter, matches}
 use Rattle.dossier.specs.Admission.{demand, wanted, unwanted, edge-row}
-use Rattle.dossier.proofs.Trials.{is-true, of-true, both-parts, both-from}
+use Rattle.dossier.proofs.Trials.{is-true, of-true}
 use Rattle.dossier.proofs.RowValues.{zero-holds, minus-one-fails, opposite-holds}
 use Rattle.dossier.proofs.Masks.{covered-bit, apart-bit, masked, letter-bit}
 
@@ -53,23 +54,20 @@ module _ (cells : List ℤ) (xs : List ℤ) where
       pub matching-holds : T (matches cells e (letter cells place xs)) → (i : ℕ) → i < head cells .propositions → T (holds (edge-row cells e place i) xs)
       matching-holds m i h =
           let l : ℕ = letter cells place xs in
-          let p = both-parts (eqb (bitAnd l (must cells e)) (must cells e)) (eqb (bitAnd l (must-not cells e)) 0) m in
-          let yes : bitAnd l (must cells e) ≡ must cells e = eqb-true (bitAnd l (must cells e)) (must cells e) (is-true (eqb (bitAnd l (must cells e)) (must cells e)) (p .0)) in
-          let no : bitAnd l (must-not cells e) ≡ 0 = eqb-true (bitAnd l (must-not cells e)) 0 (is-true (eqb (bitAnd l (must-not cells e)) 0) (p .1)) in
+          let yes : bitAnd l (must cells e) ≡ must cells e = eqb→eq _ _ (both-left _ _ m) in
+          let no : bitAnd l (must-not cells e) ≡ 0 = eqb→eq _ _ (both-right (eqb (bitAnd l (must cells e)) (must cells e)) _ m) in
           chosen-holds (bit i (must cells e)) (bit i (must-not cells e)) (wanted cells place i) (unwanted cells place i)
-            (λ b. wanted-is i ∙ sym (letter-is i h) ∙ covered-bit i l (must cells e) yes b)
-            (λ b. unwanted-is i ∙ ap not (sym (letter-is i h) ∙ apart-bit i l (must-not cells e) no b))
+          (λ b. wanted-is i ∙ sym (letter-is i h) ∙ covered-bit i l (must cells e) yes b)
+          (λ b. unwanted-is i ∙ ap not (sym (letter-is i h) ∙ apart-bit i l (must-not cells e) no b))
 
       pub holding-matches : must cells e < 2 ^ head cells .propositions → must-not cells e < 2 ^ head cells .propositions → bitAnd (must-not cells e) (must cells e) ≡ 0 →
           ((i : ℕ) → i < head cells .propositions → T (holds (edge-row cells e place i) xs)) → T (matches cells e (letter cells place xs))
       holding-matches u v apart h =
           let l : ℕ = letter cells place xs in
           let yes : bitAnd l (must cells e) ≡ must cells e = masked true (head cells .propositions) l (must cells e)
-                (λ i k b. letter-is i k ∙ sym (wanted-is i) ∙ first-holds (bit i (must cells e)) (bit i (must-not cells e)) (wanted cells place i) (unwanted cells place i) (h i k) b) u in
+          (λ i k b. letter-is i k ∙ sym (wanted-is i) ∙ first-holds (bit i (must cells e)) (bit i (must-not cells e)) (wanted cells place i) (unwanted cells place i) (h i k) b) u in
           let no : bitAnd l (must-not cells e) ≡ 0 = masked false (head cells .propositions) l (must-not cells e)
-                (λ i k b. letter-is i k ∙ not-true (proposition-holds cells i place xs) (sym (unwanted-is i)
-                  ∙ second-holds (bit i (must cells e)) (bit i (must-not cells e)) (wanted cells place i) (unwanted cells place i) (h i k)
-                    (apart-bit i (must cells e) (must-not cells e) (and-comm (must cells e) (must-not cells e) ∙ apart) b) b)) v in
-          both-from (eqb (bitAnd l (must cells e)) (must cells e)) (eqb (bitAnd l (must-not cells e)) 0)
-            (of-true (eqb (bitAnd l (must cells e)) (must cells e)) (eq-eqb (bitAnd l (must cells e)) (must cells e) yes))
-            (of-true (eqb (bitAnd l (must-not cells e)) 0) (eq-eqb (bitAnd l (must-not cells e)) 0 no))
+          (λ i k b. letter-is i k ∙ not-true (proposition-holds cells i place xs) (sym (unwanted-is i)
+          ∙ second-holds (bit i (must cells e)) (bit i (must-not cells e)) (wanted cells place i) (unwanted cells place i) (h i k)
+          (apart-bit i (must cells e) (must-not cells e) (and-comm (must cells e) (must-not cells e) ∙ apart) b) b)) v in
+          both-from _ _ (of-true _ (eq-eqb _ _ yes)) (of-true _ (eq-eqb _ _ no))

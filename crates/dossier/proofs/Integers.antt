@@ -3,7 +3,7 @@ use mathlib.Core.Path.{_≡_, sym, ap, ap₂, _∙_}
 use Prim.Native.Nat.{zero, suc, zero-le, _*_}
 use native.Mathlib.Omega.{arith}
 use lib.Dec.{T, le→leb}
-use lib.IntN.{ℤ, pos, negsuc, sucℤ, predℤ, negℤ, _+ℤ_, _-ℤ_, _*ℤ_, +ℤ-idl, sucℤ-+ℤ, predℤ-+ℤ, zero-*ℤ, sucℤ-*ℤ, predℤ-*ℤ, *ℤ-comm, *ℤ-negsuc}
+use lib.IntN.{ℤ, pos, negsuc, sucℤ, predℤ, negℤ, _+ℤ_, _-ℤ_, _*ℤ_, +ℤ-idl, +ℤ-invl, sucℤ-+ℤ, predℤ-+ℤ, zero-*ℤ, sucℤ-*ℤ, predℤ-*ℤ, *ℤ-comm, *ℤ-negsuc}
 use lib.Signed.{leZ, ltZ}
 use Rattle.std.proofs.shelf.Signed.{ints}
 
@@ -23,6 +23,7 @@ pub +ℤ-*ℤ : (a b c : ℤ) → (a +ℤ b) *ℤ c ≡ (a *ℤ c) +ℤ (b *ℤ 
   where
     later : {s x′ : ℤ} (x y c : ℤ) → s ≡ x +ℤ y → x′ ≡ x +ℤ c → s +ℤ c ≡ x′ +ℤ y
     later x y c e f = omega (arith, ints)
+
     earlier : {s x′ : ℤ} (x y c : ℤ) → s ≡ x +ℤ y → x′ ≡ x -ℤ c → s -ℤ c ≡ x′ +ℤ y
     earlier x y c e f = omega (arith, ints)
 
@@ -30,10 +31,8 @@ pub *ℤ-+ℤ : (a b c : ℤ) → a *ℤ (b +ℤ c) ≡ (a *ℤ b) +ℤ (a *ℤ 
 *ℤ-+ℤ a b c = *ℤ-comm a (b +ℤ c) ∙ +ℤ-*ℤ b c a ∙ ap₂ _+ℤ_ (*ℤ-comm b a) (*ℤ-comm c a)
 
 pub negℤ-*ℤ : (a b : ℤ) → negℤ a *ℤ b ≡ negℤ (a *ℤ b)
-negℤ-*ℤ a b = cancelled (negℤ a *ℤ b) (a *ℤ b) (sym (+ℤ-*ℤ (negℤ a) a b) ∙ ap (λ z. z *ℤ b) (opposite a) ∙ zero-*ℤ b)
+negℤ-*ℤ a b = cancelled (negℤ a *ℤ b) (a *ℤ b) (sym (+ℤ-*ℤ (negℤ a) a b) ∙ ap (λ z. z *ℤ b) (+ℤ-invl a) ∙ zero-*ℤ b)
   where
-    opposite : (a : ℤ) → negℤ a +ℤ a ≡ pos 0
-    opposite a = omega (arith, ints)
     cancelled : (x y : ℤ) → x +ℤ y ≡ pos 0 → x ≡ negℤ y
     cancelled x y e = omega (arith, ints)
 
@@ -61,5 +60,6 @@ pub 0≤-cancel : (d v : ℤ) → T (ltZ (pos 0) d) → T (leZ (pos 0) (d *ℤ v
   where
     weaker : (d : ℤ) → T (ltZ (pos 0) d) → T (leZ (pos 0) d)
     weaker d h = omega (arith, ints)
+
     clash : {x y : ℤ} (d z : ℤ) → T (ltZ (pos 0) d) → T (leZ (pos 0) x) → T (leZ (pos 0) z) → x ≡ negℤ y → y ≡ z +ℤ d → ⊥
     clash d z h k m e f = omega (arith, ints)

@@ -52,7 +52,7 @@ fall-drops n mode i h k = rw (le-leb mode n h, lt-ltb i n (omega arith), le-ltb 
 fall-inside : (n mode i : ℕ) → Inside n (fall-of n mode i)
 fall-inside n mode i = cond-both (both (leb mode n) (ltb i n)) _ None (Inside n)
     (λ e. let l = ltb→lt i n (both-right (leb mode n) (ltb i n) (subst T (sym e) tt)) in
-      cond-both (ltb (i + 1) mode) (Keeps i) _ (Inside n) (λ _. l) (λ _. cond-both (eqb (i + 1) mode) (Drops i) None (Inside n) (λ _. l) (λ _. tt)))
+    cond-both (ltb (i + 1) mode) (Keeps i) _ (Inside n) (λ _. l) (λ _. cond-both (eqb (i + 1) mode) (Drops i) None (Inside n) (λ _. l) (λ _. tt)))
     (λ e. tt)
 
 steps-lower : (n mode : ℕ) (old new : List ℤ) → 1 ≤ mode → mode ≤ n → Rank (by-first-difference n) old → Rank (by-first-difference n) new
@@ -65,6 +65,7 @@ steps-lower n mode old new some within was is falls =
   where
     keeps : (a b : ℤ) → T (leZ (pos 0) (a -ℤ b)) → T (leZ b a)
     keeps a b h = omega (arith, ints)
+
     drops : (a b : ℤ) → T (leZ (pos 0) ((a -ℤ b) -ℤ pos 1)) → T (ltZ b a)
     drops a b h = omega (arith, ints)
 
@@ -94,10 +95,12 @@ falls-or-not false = inr (λ h. h)
 reached : (s : ℕ → List ℤ) (i : ℕ) → Stays s ⊎ T (leZ (head (s i)) (head (s 0)))
 reached s zero = inr (omega (arith, ints))
 reached s (suc i) = elim (reached s i) [
-      inl stays ↦ inl stays
-    | inr h ↦ elim (falls-or-not (lower (s i) (s (i + 1)))) [
-        inl falls ↦ inr (further (head (s (suc i))) (head (s i)) (head (s 0)) (subst (λ j. T (leZ (head (s j)) (head (s i)))) (add-one i) (head-keeps (s i) (s (i + 1)) falls)) h)
-      | inr stays ↦ inl (i, stays) ] ]
+  | inl stays ↦ inl stays
+  | inr h ↦ elim (falls-or-not (lower (s i) (s (i + 1)))) [
+    | inl falls ↦ inr (further (head (s (suc i))) (head (s i)) (head (s 0)) (subst (λ j. T (leZ (head (s j)) (head (s i)))) (add-one i) (head-keeps (s i) (s (i + 1)) falls)) h)
+    | inr stays ↦ inl (i, stays)
+  ]
+]
   where
     further : (a b c : ℤ) → T (leZ a b) → T (leZ b c) → T (leZ a c)
     further a b c h k = omega (arith, ints)
@@ -122,12 +125,14 @@ descend n shorter zero s ranks h = absurd (none (head (s 0)) h (rank-head n (s 0
 descend n shorter (suc v) s ranks h =
     let (i, behind) = shorter (λ j. drop 1 (s j)) (λ j. rank-tail n (s j) (ranks j)) in
     elim (reached s i) [
-      inl stays ↦ stays
-    | inr high ↦ elim (falls-or-not (lower (s i) (s (i + 1)))) [
-        inl falls ↦
-          let low = below (head (s (i + 1))) (head (s i)) (head (s 0)) (head-drops (s i) (s (i + 1)) falls behind) high h in
-          stays-from s (i + 1) (descend n shorter v (λ j. s (i + 1 + j)) (λ j. ranks (i + 1 + j)) (subst (λ m. T (ltZ (head (s m)) (pos v))) (sym (add-zero (i + 1))) low))
-      | inr stays ↦ (i, stays) ] ]
+      | inl stays ↦ stays
+      | inr high ↦ elim (falls-or-not (lower (s i) (s (i + 1)))) [
+        | inl falls ↦
+            let low = below (head (s (i + 1))) (head (s i)) (head (s 0)) (head-drops (s i) (s (i + 1)) falls behind) high h in
+            stays-from s (i + 1) (descend n shorter v (λ j. s (i + 1 + j)) (λ j. ranks (i + 1 + j)) (subst (λ m. T (ltZ (head (s m)) (pos v))) (sym (add-zero (i + 1))) low))
+        | inr stays ↦ (i, stays)
+      ]
+    ]
   where
     below : (a b c : ℤ) → T (ltZ a b) → T (leZ b c) → T (ltZ c (pos (suc v))) → T (ltZ a (pos v))
     below a b c h k l = omega (arith, ints)

@@ -7,7 +7,6 @@ pub mod LineLaw
 pub mod Masks
 pub mod Moves
 pub mod RowValues
-pub mod RunFacts
 pub mod RunLaws
 pub mod SomeRun
 pub mod Standing

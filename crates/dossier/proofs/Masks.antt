@@ -23,10 +23,6 @@ digit-set : (i m : ℕ) → bit i m ≡ true → digit i m ≡ 1
 unfolding digit
 digit-set i m h = eqb-true ((m / 2 ^ i) % 2) 1 h
 
-digit-clear : (i m : ℕ) → bit i m ≡ false → digit i m ≡ 0
-unfolding digit
-digit-clear i m h = omega (arith, eqb-false ((m / 2 ^ i) % 2) 1 h)
-
 set-digit : (i m : ℕ) → digit i m ≡ 1 → bit i m ≡ true
 unfolding digit
 set-digit i m h = eq-eqb ((m / 2 ^ i) % 2) 1 h
@@ -82,8 +78,8 @@ masked b zero l m h u =
 masked b (suc k) l m h u =
     and-step l m
     ∙ ap₂ (λ x y. x * 2 + y)
-      (masked b k (l / 2) (m / 2) (λ i d e. bit-half i l ∙ h (suc i) (omega arith) (sym (bit-half i m) ∙ e)) (half-below k m u))
-      (low-digit b l m (λ e. h 0 (omega arith) e))
+    (masked b k (l / 2) (m / 2) (λ i d e. bit-half i l ∙ h (suc i) (omega arith) (sym (bit-half i m) ∙ e)) (half-below k m u))
+    (low-digit b l m (λ e. h 0 (omega arith) e))
     ∙ cond-halves b m
 
 -- the letter --------------------------------------------------------------------------------------
@@ -115,7 +111,7 @@ module _ (cells : List ℤ) (place : ℕ) (values : List ℤ) where
   letter-bit zero i h = absurd (omega arith)
   letter-bit (suc n) i h =
       ⊎-elim
-        (λ e. subst (λ k. bit k (letter-below cells (suc n) place values) ≡ proposition-holds cells k place values) (sym e)
-          (top-bit (proposition-holds cells n place values) n (letter-below cells n place values) (letter-low n)))
-        (λ e. low-bit (proposition-holds cells n place values) i n (letter-below cells n place values) (omega arith) ∙ letter-bit n i (omega arith))
-        (cases-eq i n)
+      (λ e. subst (λ k. bit k (letter-below cells (suc n) place values) ≡ proposition-holds cells k place values) (sym e)
+      (top-bit (proposition-holds cells n place values) n (letter-below cells n place values) (letter-low n)))
+      (λ e. low-bit (proposition-holds cells n place values) i n (letter-below cells n place values) (omega arith) ∙ letter-bit n i (omega arith))
+      (cases-eq i n)

@@ -6,7 +6,6 @@ use Rattle.std.specs.declared.result.Result.the-variants.{Ok}
 use Rattle.dossier.specs.Admission.{Trial, first-failure, verdict, admit-every-run, admit-some-run, every-run-trials, some-run-trials, every-run-lines, some-run-lines}
 use Rattle.dossier.specs.Laws.{All-pass, Exactly-law, Every-run-theorem, Some-run-theorem}
 use Rattle.dossier.proofs.Trials.{none-fails, all-passed, verdict-ok}
-use Rattle.dossier.proofs.RunFacts.{Facts}
 use Rattle.dossier.proofs.EveryRun.{every-run}
 use Rattle.dossier.proofs.SomeRun.{some-run}
 
@@ -22,8 +21,8 @@ exactly-law kind cells = record {
   some-run-back = λ h. ap (verdict (some-run-lines cells)) (all-passed (some-run-trials cells kind) h);
 }
 
-pub every-run-theorem : Facts → Every-run-theorem
-every-run-theorem facts kind lawful cells formed n admitted = every-run facts kind lawful cells formed (exactly-law kind cells .every-run n admitted .1)
+pub every-run-theorem : Every-run-theorem
+every-run-theorem kind lawful cells formed n admitted = every-run kind lawful cells formed (exactly-law kind cells .every-run n admitted .1)
 
-pub some-run-theorem : Facts → Some-run-theorem
-some-run-theorem facts kind lawful cells formed n admitted = some-run facts kind lawful cells formed (exactly-law kind cells .some-run n admitted .1)
+pub some-run-theorem : Some-run-theorem
+some-run-theorem kind lawful cells formed n admitted = some-run kind lawful cells formed (exactly-law kind cells .some-run n admitted .1)

@@ -51,9 +51,10 @@ module _ (cells : List ℤ) where
   replicated : (k : ℕ) (f : Frame) (fs : List Frame) (n : ℕ) → Standing (replicate k f ++ fs) n → ((i : ℕ) → i < k → Held f (n + i * width f)) × Standing fs (n + k * width f)
   replicated zero f fs n s = (λ i l. absurd (not-suc-le-zero l), subst (Standing fs) (omega (arith, zero-mul (width f))) s)
   replicated (suc k) f fs n s =
-      let later = replicated k f fs (n + width f) (s .1) in
-      ( below-suc (λ i. Held f (n + i * width f)) k (subst (Held f) (omega (arith, zero-mul (width f))) (s .0)) (λ i l. subst (Held f) (omega (arith, suc-mul i (width f))) (later .0 i l))
-      , subst (Standing fs) (omega (arith, suc-mul k (width f))) (later .1))
+      let later = replicated k f fs (n + width f) (s .1) in (
+        below-suc (λ i. Held f (n + i * width f)) k (subst (Held f) (omega (arith, zero-mul (width f))) (s .0)) (λ i l. subst (Held f) (omega (arith, suc-mul i (width f))) (later .0 i l)),
+        subst (Standing fs) (omega (arith, suc-mul k (width f))) (later .1),
+      )
 
   -- the lines of one pass that begins at n
   pub record Pass (g : Group) (n : ℕ) : Type 0 where
@@ -70,9 +71,10 @@ module _ (cells : List ℤ) where
   passes-held g zero fs n s = (λ t l. absurd (not-suc-le-zero l), subst (Standing fs) (omega (arith, zero-mul (pass-width g))) s)
   passes-held g (suc k) fs n s =
       let now = passed g (group-lines g k ++ fs) n (rw (append-assoc (group-pass g) (group-lines g k) fs) at s) in
-      let later = passes-held g k fs (n + pass-width g) (now .1) in
-      ( below-suc (λ t. Pass g (n + t * pass-width g)) k (subst (Pass g) (omega (arith, zero-mul (pass-width g))) (now .0)) (λ t l. subst (Pass g) (omega (arith, suc-mul t (pass-width g))) (later .0 t l))
-      , subst (Standing fs) (omega (arith, suc-mul k (pass-width g))) (later .1))
+      let later = passes-held g k fs (n + pass-width g) (now .1) in (
+        below-suc (λ t. Pass g (n + t * pass-width g)) k (subst (Pass g) (omega (arith, zero-mul (pass-width g))) (now .0)) (λ t l. subst (Pass g) (omega (arith, suc-mul t (pass-width g))) (later .0 t l)),
+        subst (Standing fs) (omega (arith, suc-mul k (pass-width g))) (later .1),
+      )
 
   -- the lines of groups stand from n on
   pub record Following (gs : List Group) (n : ℕ) : Type 0 where
@@ -97,11 +99,13 @@ module _ (cells : List ℤ) where
   led-by f n = take (length (leading f)) (take (width f) (drop n cells))
 
   -- the leading value i stands at m
-  pub lead-held : (f : Frame) (n : ℕ) → Held f n → (i : ℕ) → i < length (leading f) → (m : ℕ) → m ≡ n + i → T (passes (getD (leading f) i unused .digits) (rangeOf (getD (leading f) i unused .test) (take i (led-by f n))) (getD cells m (pos 0)))
-  lead-held f n held i l m e =
+  pub led-value : (f : Frame) (n i : ℕ) → i < length (leading f) → (m : ℕ) → m ≡ n + i → getD (led-by f n) i (pos 0) ≡ getD cells m (pos 0)
+  led-value f n i l m e =
       let within : i < width f = omega arith in
-      let same : getD (led-by f n) i (pos 0) ≡ getD cells m (pos 0) = getD-take (length (leading f)) (take (width f) (drop n cells)) i (pos 0) l ∙ getD-take (width f) (drop n cells) i (pos 0) within ∙ getD-drop n cells i (pos 0) ∙ ap (λ k. getD cells k (pos 0)) (omega arith) in
-      rw same at (lead-passes [] (leading f) (led-by f n) (both-left _ _ held) i l)
+      getD-take (length (leading f)) (take (width f) (drop n cells)) i (pos 0) l ∙ getD-take (width f) (drop n cells) i (pos 0) within ∙ getD-drop n cells i (pos 0) ∙ ap (λ k. getD cells k (pos 0)) (omega arith)
+
+  pub lead-held : (f : Frame) (n : ℕ) → Held f n → (i : ℕ) → i < length (leading f) → (m : ℕ) → m ≡ n + i → T (passes (getD (leading f) i unused .digits) (rangeOf (getD (leading f) i unused .test) (take i (led-by f n))) (getD cells m (pos 0)))
+  lead-held f n held i l m e = rw (led-value f n i l m e) at (lead-passes [] (leading f) (led-by f n) (both-left _ _ held) i l)
 
   -- the value i of the others stands at m
   pub rest-held : (f : Frame) (n : ℕ) → Held f n → (i : ℕ) → i < f .count → (m : ℕ) → m ≡ n + length (leading f) + i → T (passes (f .rest .digits) (rangeOf (f .rest .test) (led-by f n)) (getD cells m (pos 0)))

@@ -5,23 +5,22 @@ use mathlib.Core.List.{List, [], _∷_, _++_}
 use mathlib.Core.Logic.{⊎-elim}
 use Prim.Native.Nat.{ℕ, zero, suc, _+_, _<_, _≤_}
 use native.Mathlib.Omega.{arith}
-use lib.Dec.{T, eqb}
+use lib.Dec.{T, eqb, eqb→eq}
 use lib.IntN.{ℤ, pos}
 use lib.ListN.{length, getD}
-use lib.Signed.{leZ, ltZ}
+use lib.Signed.{leZ}
 use Rattle.std.specs.Joined.{joined}
 use Rattle.std.specs.declared.option.Option.{Option}
 use Rattle.std.specs.declared.option.Option.the-variants.{Some, None}
 use Rattle.std.specs.declared.result.Result.the-variants.{Ok}
-use Rattle.std.proofs.shelf.Tests.{cases-eq, eqb-true}
+use Rattle.std.proofs.shelf.Tests.{cases-eq}
 use Rattle.layout.specs.Cells.{both}
+use Rattle.layout.proofs.Count.{both-left, both-right}
 use Rattle.dossier.specs.declared.fault.AdmitFault.{AdmitFault}
 use Rattle.dossier.specs.Rows.{Row, holds, each, each-from}
-use Rattle.dossier.specs.Dossier.{head, cell}
 use Rattle.dossier.specs.Kinds.{NonNegative}
-use Rattle.dossier.specs.Admission.{Trial, first-failure, verdict, lines}
-use Rattle.dossier.specs.Laws.{All-pass, All-hold, Line-law}
-use Rattle.dossier.specs.Ranges.{Line}
+use Rattle.dossier.specs.Admission.{Trial, first-failure, verdict}
+use Rattle.dossier.specs.Laws.{All-pass, All-hold}
 
 -- a test passed, in its two forms
 pub is-true : (b : Bool) → T b → b ≡ true
@@ -31,18 +30,8 @@ is-true false h = absurd h
 pub of-true : (b : Bool) → b ≡ true → T b
 of-true b h = subst T (sym h) tt
 
-pub both-parts : (a b : Bool) → T (both a b) → T a × T b
-both-parts true b h = (tt, h)
-both-parts false b h = absurd h
-
-pub both-from : (a b : Bool) → T a → T b → T (both a b)
-both-from true b h k = k
-both-from false b h k = h
-
 pub both-equal : (a b c d : ℕ) → T (both (eqb a b) (eqb c d)) → (a ≡ b) × (c ≡ d)
-both-equal a b c d h =
-    let p = both-parts (eqb a b) (eqb c d) h in
-    (eqb-true a b (is-true (eqb a b) (p .0)), eqb-true c d (is-true (eqb c d) (p .1)))
+both-equal a b c d h = (eqb→eq a b (both-left (eqb a b) (eqb c d) h), eqb→eq c d (both-right (eqb a b) (eqb c d) h))
 
 -- the first failure -------------------------------------------------------------------------------
 
@@ -101,6 +90,9 @@ module _ {A : Type 0} (P : A → Type 0) (All : List A → Type 0) (f : ℕ → 
       let r = split (f i) (each-from (suc i) n f) h in
       ⊎-elim (λ e. subst (λ x. P (f x)) e (r .0)) (λ e. all-each-from split (suc i) n (r .1) k (omega arith) (omega arith)) (cases-eq i k)
 
+pub pass-each : (n : ℕ) (f : ℕ → Trial) → All-pass (each n f) → (k : ℕ) → k < n → T (f k .passes)
+pass-each n f h k u = all-each-from (λ t. T (t .passes)) All-pass f (λ x ys p. p) 0 n h k (omega arith) (omega arith)
+
 pub each-hold : (n : ℕ) (f : ℕ → Row) (xs : List ℤ) → ((k : ℕ) → k < n → T (holds (f k) xs)) → All-hold (each n f) xs
 each-hold n f xs h = each-all-from (λ r. T (holds r xs)) (λ rs. All-hold rs xs) f tt (λ x ys p q. (p, q)) 0 n (λ k l u. h k (omega arith))
 
@@ -127,22 +119,3 @@ getD-each-from f i (suc n) (suc k) d h = getD-each-from f (suc i) n k d (omega a
 
 pub getD-each : {A : Type 0} (n : ℕ) (f : ℕ → A) (k : ℕ) (d : A) → k < n → getD (each n f) k d ≡ f k
 getD-each n f k d h = getD-each-from f 0 n k d h ∙ ap f (omega arith)
-
--- lines that pass ---------------------------------------------------------------------------------
-
-above-one : (d : ℤ) → T (leZ (pos 1) d) → T (ltZ (pos 0) d)
-above-one d h = grind (arith)
-
-module _ (law : Line-law) (cells : List ℤ) (at : ℕ → ℕ) (n : ℕ) (hs : List Row) (named : ℕ → AdmitFault) (xs : List ℤ) (sized : length xs ≡ head cells .variables) (given : All-hold hs xs) where
-  lines-hold-from : (k : ℕ) (cs : List Row) → All-pass (lines cells at n hs named k cs) → ((j : ℕ) → k ≤ j → j < k + length cs → Line cells (at j) n) → All-hold cs xs
-  lines-hold-from k [] h r = tt
-  lines-hold-from k (c ∷ cs) h r =
-      let here : Line cells (at k) n = r k (omega arith) (omega arith) in
-      let d = both-parts (leZ (pos 1) (cell cells (at k))) (leZ (cell cells (at k)) (pos 1048575)) (here .0) in
-      let ms : NonNegative (each n (λ j. cell cells (at k + 1 + j))) = each-nonnegative n (λ j. cell cells (at k + 1 + j)) (λ j l. both-parts (leZ (pos 0) (cell cells (at k + 1 + j))) (leZ (cell cells (at k + 1 + j)) (pos 1048575)) (here .1 j l) .0) in
-      (law (head cells .variables) (cell cells (at k)) (each n (λ j. cell cells (at k + 1 + j))) hs c (h .0) (above-one (cell cells (at k)) (d .0)) ms xs sized given,
-       lines-hold-from (suc k) cs (h .1) (λ j l u. r j (omega arith) (omega arith)))
-
-  -- where every line passes, the hypotheses give every conclusion
-  pub lines-hold : (count : ℕ) (cs : List Row) → length cs ≡ count → ((j : ℕ) → j < count → Line cells (at j) n) → All-pass (lines cells at n hs named 0 cs) → All-hold cs xs
-  lines-hold count cs e r h = lines-hold-from 0 cs h (λ j l u. r j (omega arith))

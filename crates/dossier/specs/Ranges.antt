@@ -1,6 +1,8 @@
 -- The ranges of a well-formed list's cells, part by part.
+use mathlib.Core.Path.{_≡_}
 use mathlib.Core.List.{List}
 use Prim.Native.Nat.{ℕ, _+_, _*_, _^_, _<_, _≤_}
+use lib.Bits.{bitAnd}
 use lib.Dec.{T}
 use lib.IntN.{ℤ, pos, negsuc}
 use Rattle.layout.specs.Cells.{between}
@@ -36,6 +38,7 @@ pub record Program-ranges (cells : List ℤ) : Type 0 where
   pub edge-to : (e : ℕ) → e < Dossier.head cells .edges → Dossier.edge-to cells e < Dossier.head cells .states
   pub must : (e : ℕ) → e < Dossier.head cells .edges → Dossier.must cells e < 2 ^ Dossier.head cells .propositions
   pub must-not : (e : ℕ) → e < Dossier.head cells .edges → Dossier.must-not cells e < 2 ^ Dossier.head cells .propositions
+  pub apart : (e : ℕ) → e < Dossier.head cells .edges → bitAnd (Dossier.must-not cells e) (Dossier.must cells e) ≡ 0
   pub point-rows : (p r : ℕ) → p < Dossier.points (Dossier.head cells) → r < point-rows (Dossier.head cells) → Small-row cells (Dossier.point-at (Dossier.head cells) p + r * Dossier.row-width (Dossier.head cells))
 
 pub record Every-run-ranges (cells : List ℤ) : Type 0 where

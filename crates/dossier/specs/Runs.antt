@@ -88,6 +88,8 @@ module _ (cells : List ℤ) where
 
   -- what admission buys of an every-run dossier
   pub record Every-run-law : Type 0 where
+    -- from every state and letter some edge goes on, so that the watch follows every step of the program
+    pub watched : (q l : ℕ) → q < head cells .states → l < 2 ^ head cells .propositions → (e : ℕ) × (e < head cells .edges) × (edge-from cells e ≡ q) × T (matches e l)
     pub within : (s : Situation) → Reached s → Within s
     -- an endless run stands at a marked point at or after move k, for every k
     pub recurs : (run : ℕ → Situation) → Endless run → (k : ℕ) → (j : ℕ) × (k ≤ j) × T (marked (run j))

@@ -183,11 +183,6 @@ due-most h r =
     let last = cond-cells-le (every-run h) (moves-group h) (choices-group h) 29376 moved (omega arith) in
     omega arith
 
--- the bound is met
-pub longest-head : cells-due (record { variables = 6; places = 8; steps = 16; propositions = 8; states = 4; edges = 12; start-rows = 4; guards = 4; region-rows = 4; start-place = 0; start-state = 0; form = 1; rank-numbers = 2 }) ≡ 32067
-unfolding cells-due
-longest-head = refl
-
 -- a well-formed list's parts ----------------------------------------------------------------------
 
 pub record Formed (cells : List ℤ) : Type 0 where

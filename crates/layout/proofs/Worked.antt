@@ -9,7 +9,7 @@ use Rattle.layout.specs.Cases.{run-down-cells, Worked-cases}
 
 pub worked : Worked-cases
 unfolding read-text well-formed sheet-text lines-due cells-due
-worked = ((refl, (refl, tt)), refl, refl)
+worked = ((refl, (refl, tt)), refl, refl, refl)
 
 pub run-down-formed : well-formed run-down-cells ≡ true
 run-down-formed = worked .1

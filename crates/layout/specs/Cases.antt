@@ -8,7 +8,8 @@ use lib.IntN.{ℤ, pos, negsuc}
 use Rattle.std.specs.declared.result.Result.{Result}
 use Rattle.std.specs.declared.result.Result.the-variants.{Ok, Err}
 use Rattle.layout.specs.declared.fault.Refusal.{Refusal}
-use Rattle.layout.specs.Cells.{well-formed}
+use Rattle.layout.specs.Cells.{well-formed, cells-due}
+use Rattle.layout.specs.Layout.{Counts}
 use Rattle.layout.specs.Text.{sheet-text}
 use Rattle.layout.specs.Reading.{read-text}
 use Rattle.layout.specs.Refusals.{refused, told, read-refusal}
@@ -56,5 +57,23 @@ abbrev pub All-read : List Case → Type 0
 All-read [] = Unit {0}
 All-read (c ∷ cs) = (told read-refusal (read-text (c .text) (c .room)) ≡ c .answer) × All-read cs
 
+-- the head that calls for most cells
+abbrev pub longest-counts : Counts
+longest-counts = record {
+  variables = 6;
+  places = 8;
+  steps = 16;
+  propositions = 8;
+  states = 4;
+  edges = 12;
+  start-rows = 4;
+  guards = 4;
+  region-rows = 4;
+  start-place = 0;
+  start-state = 0;
+  form = 1;
+  rank-numbers = 2;
+}
+
 abbrev pub Worked-cases : Type 0
-Worked-cases = All-read reading-cases × (well-formed run-down-cells ≡ true) × (sheet-text run-down-cells ≡ run-down-text)
+Worked-cases = All-read reading-cases × (well-formed run-down-cells ≡ true) × (sheet-text run-down-cells ≡ run-down-text) × (cells-due longest-counts ≡ 32067)

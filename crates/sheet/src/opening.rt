@@ -44,7 +44,7 @@ pub fn open<'a>(list: &'a [i32], place: &mut Sheet<'a>) -> Result<(), OpenFault>
 }
 
 // The sheet that stands before any is opened: one over the run-down cells.
-pub fn run_down() -> Sheet<'static>
+pub fn run_down<'a>() -> Sheet<'a>
     ensures { λ r. ⌜ now (r .list) ≡ run-down-cells ⌝ }
 {
     Sheet { list: &RUN_DOWN }
