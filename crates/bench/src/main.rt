@@ -7,7 +7,6 @@ mod writer;
 use sheet::opening;
 use sheet::opening::SheetSource;
 use sheet::read::read;
-use sheet::sheet::Sheet;
 use sheet::source::Source;
 use std::error::AnyError;
 use std::rt::Clock;
@@ -40,14 +39,9 @@ fn count_read(text: &[u8], cells: &mut [i32]) -> usize {
     read(text, cells).unwrap_or(0)
 }
 
-// The sheet to open into.
-fn standing<'a>(_cells: &'a [i32]) -> Sheet<'a> {
-    opening::run_down()
-}
-
 // Opens the cells and tells the last one, or 0 where they are refused.
 fn last_opened(cells: &[i32]) -> i32 {
-    let mut sheet = standing(cells);
+    let mut sheet = opening::run_down();
     match opening::open(cells, &mut sheet) {
         Ok(()) => sheet.cell(sheet.count().wrapping_sub(1)),
         Err(_) => 0,

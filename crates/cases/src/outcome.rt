@@ -2,7 +2,6 @@
 use layout::fault::Refusal;
 use sheet::opening;
 use sheet::read::read;
-use sheet::sheet::Sheet;
 use std::alloc::AllocError;
 use std::alloc::Global;
 use std::fmt;
@@ -29,18 +28,13 @@ fn untouched(cells: &[i32]) -> bool {
     true
 }
 
-// The sheet to open into.
-fn standing<'a>(_cells: &'a [i32]) -> Sheet<'a> {
-    opening::run_down()
-}
-
 fn opens(cells: &[i32]) -> bool {
-    let mut sheet = standing(cells);
+    let mut sheet = opening::run_down();
     opening::open(cells, &mut sheet).is_ok()
 }
 
 fn is_refused(cells: &[i32]) -> bool {
-    let mut sheet = standing(cells);
+    let mut sheet = opening::run_down();
     match opening::open(cells, &mut sheet) {
         Ok(()) => false,
         Err(fault) => {

@@ -26,8 +26,10 @@ filled-more row j f v inside e h k = ⊎-elim below (λ (n : j ≤ k). ⊎-elim 
   where
     below : k < j → getD (set row j v) k (pos 0) ≡ cond (ltb k (j + 1)) (f k) (pos 0)
     below l = getD-set-other row j k v (pos 0) (omega arith) ∙ h k ∙ ap (λ t. cond t (f k) (pos 0)) (lt-ltb k j l ∙ sym (lt-ltb k (j + 1) (omega arith)))
+
     above : j < k → getD (set row j v) k (pos 0) ≡ cond (ltb k (j + 1)) (f k) (pos 0)
     above l = getD-set-other row j k v (pos 0) (omega arith) ∙ h k ∙ ap (λ t. cond t (f k) (pos 0)) (le-ltb k j (omega arith) ∙ sym (le-ltb k (j + 1) (omega arith)))
+
     here : k ≡ j → getD (set row j v) k (pos 0) ≡ cond (ltb k (j + 1)) (f k) (pos 0)
     here same = ap (λ i. getD (set row j v) i (pos 0)) same ∙ getD-set-same row j v (pos 0) inside ∙ e ∙ ap f (sym same) ∙ ap (λ t. cond t (f k) (pos 0)) (sym (lt-ltb k (j + 1) (omega arith)))
 

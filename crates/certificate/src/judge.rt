@@ -29,5 +29,11 @@ pub(crate) fn judge<S: Source>(
     for k in 0..count {
         multipliers[k] = source.cell(at + 1 + k) as i64;
     }
-    line_holds(head.variables as usize, divisor, &multipliers[0..count], hypotheses, conclusion)
+    line_holds(
+        head.variables as usize,
+        divisor,
+        &multipliers[0..count],
+        hypotheses,
+        conclusion,
+    )
 }

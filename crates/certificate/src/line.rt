@@ -4,7 +4,6 @@ ghost use Prim.Native.Nat.{_≤_, _<_};
 ghost use lib.IntN.{pos, negsuc, _*ℤ_};
 ghost use lib.ListN.{length};
 ghost use lib.Signed.{_≤ℤ_};
-
 ghost use Rattle.dossier.specs.Lines.{sums, line-holds};
 ghost use Rattle.certificate.specs.Arrays.{row-of, rows-of, Weighted, Wide};
 

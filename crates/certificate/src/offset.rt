@@ -96,7 +96,8 @@ pub(crate) fn move_at(head: &Head, m: usize) -> usize
     requires { ⌜ m ≤ 192 ⌝ }
     ensures { λ r. ⌜ r ≡ view.move-at (counts-of (now (head .entry))) m ⌝ ∗ ⌜ r ≤ 32067 ⌝ }
 {
-    start_line_at(head, rows_of_point(head)) + m * (1 + conclusions_of(head) * (1 + move_hypotheses(head)))
+    start_line_at(head, rows_of_point(head))
+        + m * (1 + conclusions_of(head) * (1 + move_hypotheses(head)))
 }
 
 pub(crate) fn move_line_at(head: &Head, m: usize, k: usize) -> usize
@@ -123,7 +124,8 @@ pub(crate) fn choice_at(head: &Head, p: usize) -> usize
     requires { ⌜ p ≤ 32 ⌝ }
     ensures { λ r. ⌜ r ≡ view.choice-at (counts-of (now (head .entry))) p ⌝ ∗ ⌜ r ≤ 7243 ⌝ }
 {
-    shown_at(head, head.variables as usize) + p * (3 + point_conclusions(head) * (1 + rows_of_point(head)))
+    shown_at(head, head.variables as usize)
+        + p * (3 + point_conclusions(head) * (1 + rows_of_point(head)))
 }
 
 pub(crate) fn point_line_at(head: &Head, p: usize, k: usize) -> usize

@@ -24,12 +24,19 @@ fn edge_matches<S: Source>(source: &S, head: &Head, edge: usize, letter: usize) 
 }
 
 // The lowest-numbered edge from a state that matches a letter.
-pub(crate) fn matching_edge<S: Source>(source: &S, head: &Head, state: usize, letter: usize) -> Option<usize>
+pub(crate) fn matching_edge<S: Source>(
+    source: &S,
+    head: &Head,
+    state: usize,
+    letter: usize,
+) -> Option<usize>
     requires { ⌜ counts-of (now head) ≡ view.head (S·Source .cells (now source)) ⌝ }
     ensures { λ r. ⌜ r ≡ admission.edge-for (S·Source .cells (now (source .entry))) state letter ⌝ }
 {
     for edge in 0..head.edges as usize {
-        if number(source, edge_at(head, edge)) == state && edge_matches(source, head, edge, letter) {
+        if number(source, edge_at(head, edge)) == state
+            && edge_matches(source, head, edge, letter)
+        {
             return Some(edge);
         }
     }

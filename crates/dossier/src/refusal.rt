@@ -18,6 +18,10 @@ impl AdmitFault {
             AdmitFault::EdgeElsewhere { point } => (0x25, point, 1),
             AdmitFault::PointLine { point, line } => (0x26, point, line),
         };
-        Refusal { number, first, second }
+        Refusal {
+            number,
+            first,
+            second,
+        }
     }
 }

@@ -108,7 +108,14 @@ pub(crate) impl<'a> Fields for Checker<'a> as CellFields {
         Ok(())
     }
 
-    fn run(&mut self, digits: Digits, range: Range, count: u16, cells: &mut [i32], at: usize) -> Result<usize, OpenFault> {
+    fn run(
+        &mut self,
+        digits: Digits,
+        range: Range,
+        count: u16,
+        cells: &mut [i32],
+        at: usize,
+    ) -> Result<usize, OpenFault> {
         let from = self.place.byte;
         let size = count as usize;
         if size > self.list.len() - from {

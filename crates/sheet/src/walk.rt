@@ -46,7 +46,14 @@ pub(crate) trait Fields {
         ensures found { λ r. ⌜ Found r (place (now (self .exit))) (supply (now (self .entry)) .end (place (now (self .entry)))) ⌝ };
 
     // `count` fields of one sort.
-    fn run(&mut self, digits: Digits, range: Range, count: u16, cells: &mut [i32], at: usize) -> Result<usize, Self::Fault>
+    fn run(
+        &mut self,
+        digits: Digits,
+        range: Range,
+        count: u16,
+        cells: &mut [i32],
+        at: usize,
+    ) -> Result<usize, Self::Fault>
         ensures same { λ _. ⌜ supply (now (self .exit)) ≡ supply (now (self .entry)) ⌝ }
         ensures walked { λ r. ⌜ Stored r (now (cells .exit)) (place (now (self .exit))) (walking.run (supply (now (self .entry))) put digits range count (at, now (cells .entry)) (place (now (self .entry)))) ⌝ }
     {
@@ -127,7 +134,16 @@ fn frame_line<V: Fields>(
 {
     let leads = frame.lead.len().min(frame.leads as usize);
     let mut values = [0; 4];
-    line(fields, frame.kind, &frame.lead[0..leads], frame.rest, frame.count, &mut values, cells, at)
+    line(
+        fields,
+        frame.kind,
+        &frame.lead[0..leads],
+        frame.rest,
+        frame.count,
+        &mut values,
+        cells,
+        at,
+    )
 }
 
 // `times` lines of one sort.
@@ -316,6 +332,15 @@ pub(crate) fn head<V: Fields>(fields: &mut V, cells: &mut [i32]) -> Result<(Head
     ensures walked { λ r. ⌜ Headed r (now (cells .exit)) (V·Fields .place (now (fields .exit))) (walking.line (V·Fields .supply (now (fields .entry))) put head-kind head-fields unused 0 (0, now (cells .entry)) (V·Fields .place (now (fields .entry)))) ⌝ }
 {
     let mut values = [0; 13];
-    let next = line(fields, 0x10, &HEAD_FIELDS, NO_FIELD, 0, &mut values, cells, 0)?;
+    let next = line(
+        fields,
+        0x10,
+        &HEAD_FIELDS,
+        NO_FIELD,
+        0,
+        &mut values,
+        cells,
+        0,
+    )?;
     Ok((head_of(&values), next))
 }

@@ -23,16 +23,11 @@ impl Held {
     }
 }
 
-// The sheet that stands before any is opened, at the lifetime of the one to come.
-fn standing<'a>() -> Sheet<'a> {
-    run_down()
-}
-
 // Whether the cells are a full sheet's.
 fn judge<'a>(list: &'a [i32]) -> Result<(), OpenFault>
     ensures { λ r. ⌜ r ≡ verdict (well-formed (now (list .entry))) ⌝ }
 {
-    let mut sheet: Sheet<'a> = standing();
+    let mut sheet: Sheet<'a> = run_down();
     open(list, &mut sheet)
 }
 

@@ -40,8 +40,7 @@ line-holds-requires g c κs =
     let d = line .0 in
     let low : pos 1 ≤ℤ view.cell cells (c .args .at) = leZ-yes (both-left _ _ d) in
     let high : view.cell cells (c .args .at) ≤ℤ pos 1048575 = leZ-yes (both-right (leZ (pos 1) (view.cell cells (c .args .at))) _ d) in
-    let is : c .cell-divisor .result ≡ view.cell cells (c .args .at) = c .cell-divisor .ensures in
-    (
+    let is : c .cell-divisor .result ≡ view.cell cells (c .args .at) = c .cell-divisor .ensures in (
       c .args .head .now .program .0,
       (
         (simp toZ-ofZ (omega (arith, ints, is)), simp toZ-ofZ (omega (arith, ints, is))),

@@ -35,8 +35,7 @@ loop-b-again c = (
 pub returns-then-seen-lt16 : need.returns-then-seen-lt16
 returns-then-seen-lt16 c =
     let all : c .loop-b .b-index ≡ length (c .args .part .now) = omega arith in
-    let none : length (c .args .part .now) - c .loop-b .b-index ≡ 0 = omega arith in
-    (
+    let none : length (c .args .part .now) - c .loop-b .b-index ≡ 0 = omega arith in (
       subst (λ n. c .loop-b .value < 16 ^ n) all (c .loop-b .inv .0),
       λ more p. sym (c .loop-b .inv .1 (c .if-seen-lt16 .taken) more p) ∙ ap (λ n. digits n (c .loop-b .value) (drop (c .loop-b .b-index) (c .args .part .now) ++ more) (ahead p (c .loop-b .b-index))) none,
     )
