@@ -4,4 +4,3 @@ mod judge;
 pub mod kind;
 mod line;
 mod offset;
-mod watch;

@@ -398,13 +398,17 @@ impl<'a> Reader<'a> {
         ensures read { λ r. ⌜ r ≡ bytes.field-at (now (now (self .entry) .text)) digits range (now (self .entry) .place) ⌝ }
         ensures behind { λ r. ⌜ Cases r (λ _. now (self .exit) .place ≡ bytes.ahead (now (self .entry) .place) (digits-of digits)) (λ _. Unit {0}) ⌝ }
     {
-        let start = self.place;
+        // the byte alone: the whole place would wait for the store of the last field
+        let start = self.place.byte;
         let raw = self.raw(digits)?;
         let value = number_of(digits, raw);
         if passes_in(digits, range, value) {
             Ok(value as i32)
         } else {
-            Err(FieldFault::OutOfRange(start))
+            Err(FieldFault::OutOfRange(Place {
+                line: self.place.line,
+                byte: start,
+            }))
         }
     }
 }
@@ -419,12 +423,15 @@ pub(crate) impl<'a> Fields for Reader<'a> as TextFields {
     ghost place = { λ s. s .place };
 
     fn kind(&mut self, due: u8) -> Result<(), LineFault> {
-        let start = self.place;
+        let start = self.place.byte;
         let kind = self.digits(2)?;
         if kind == due as u32 {
             Ok(())
         } else {
-            Err(LineFault::WrongKind(start))
+            Err(LineFault::WrongKind(Place {
+                line: self.place.line,
+                byte: start,
+            }))
         }
     }
 
