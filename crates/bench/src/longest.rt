@@ -142,7 +142,7 @@ impl Maker {
     }
 }
 
-pub fn longest(heap: Global) -> Result<Vec<u8>, AllocError> {
+pub(crate) fn longest(heap: Global) -> Result<Vec<u8>, AllocError> {
     let mut maker = Maker {
         writer: Writer::new(heap),
         numbers: Numbers::new(),

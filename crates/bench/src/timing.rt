@@ -12,7 +12,7 @@ pub struct Timing {
 }
 
 impl Timing {
-    pub fn new() -> Self {
+    pub(crate) fn new() -> Self {
         Timing {
             turns: 0,
             total: 0,
@@ -21,7 +21,7 @@ impl Timing {
     }
 
     // Counts a turn that began at `start` and ends now.
-    pub fn add(&mut self, clock: &impl Clock, start: Instant) -> io::Result<()> {
+    pub(crate) fn add(&mut self, clock: &impl Clock, start: Instant) -> io::Result<()> {
         let time = start.elapsed(clock)?.as_nanos();
         self.turns = self.turns.saturating_add(1);
         self.total = self.total.saturating_add(time);
@@ -30,7 +30,7 @@ impl Timing {
     }
 
     // Megabytes a second at the fastest turn, for a text of so many bytes.
-    pub fn rate(&self, bytes: usize) -> u128 {
+    pub(crate) fn rate(&self, bytes: usize) -> u128 {
         (bytes as u128).saturating_mul(1000) / self.fastest.max(1)
     }
 }

@@ -17,39 +17,39 @@ fn digit(value: u8) -> u8 {
 }
 
 impl Writer {
-    pub fn new(heap: Global) -> Self {
+    pub(crate) fn new(heap: Global) -> Self {
         Writer {
             text: Vec::new(heap),
         }
     }
 
     // Two digits: a kind or a short field.
-    pub fn two(&mut self, value: u8) -> Result<(), AllocError> {
+    pub(crate) fn two(&mut self, value: u8) -> Result<(), AllocError> {
         self.text.push(digit(value >> 4))?;
         self.text.push(digit(value))?;
         Ok(())
     }
 
-    pub fn four(&mut self, value: u16) -> Result<(), AllocError> {
+    pub(crate) fn four(&mut self, value: u16) -> Result<(), AllocError> {
         for byte in value.to_be_bytes() {
             self.two(byte)?;
         }
         Ok(())
     }
 
-    pub fn eight(&mut self, value: u32) -> Result<(), AllocError> {
+    pub(crate) fn eight(&mut self, value: u32) -> Result<(), AllocError> {
         for byte in value.to_be_bytes() {
             self.two(byte)?;
         }
         Ok(())
     }
 
-    pub fn end(&mut self) -> Result<(), AllocError> {
+    pub(crate) fn end(&mut self) -> Result<(), AllocError> {
         self.text.push(b'\n')?;
         Ok(())
     }
 
-    pub fn into_text(self) -> Vec<u8> {
+    pub(crate) fn into_text(self) -> Vec<u8> {
         let Writer { text } = self;
         text
     }

@@ -31,7 +31,7 @@ fn base(rt: &(impl Files + Alloc<A = Global>), words: &str) -> Result<Vec<u8>, A
 }
 
 impl<'a> Case<'a> {
-    pub fn parse(line: &'a str) -> Result<Case<'a>, AnyError> {
+    pub(crate) fn parse(line: &'a str) -> Result<Case<'a>, AnyError> {
         let (name, rest) = field(line)?;
         let (room, rest) = field(rest)?;
         let (due, text) = field(rest)?;
@@ -44,7 +44,7 @@ impl<'a> Case<'a> {
     }
 
     // The whole text: the base, then each edit after a semicolon.
-    pub fn text(&self, rt: &(impl Files + Alloc<A = Global>)) -> Result<Vec<u8>, AnyError> {
+    pub(crate) fn text(&self, rt: &(impl Files + Alloc<A = Global>)) -> Result<Vec<u8>, AnyError> {
         let heap = rt.alloc();
         let mut parts = self.text.split(';');
         let mut text = base(rt, parts.next().unwrap_or("").trim())?;

@@ -47,7 +47,7 @@ fn put(text: &mut Vec<u8>, at: usize, bytes: &[u8]) {
 }
 
 impl Edit {
-    pub fn parse(heap: Global, words: &str) -> Result<Edit, AnyError> {
+    pub(crate) fn parse(heap: Global, words: &str) -> Result<Edit, AnyError> {
         let (verb, rest) = words.split_once(' ').unwrap_or((words, ""));
         if verb == "cut" {
             return Ok(Edit::Cut(rest.parse::<usize>()?));
@@ -63,7 +63,7 @@ impl Edit {
         }
     }
 
-    pub fn apply(self, heap: Global, text: &mut Vec<u8>) -> Result<(), AllocError> {
+    pub(crate) fn apply(self, heap: Global, text: &mut Vec<u8>) -> Result<(), AllocError> {
         match self {
             Edit::Cut(length) => text.truncate(length),
             Edit::Put(at, bytes) => put(text, at, &bytes),

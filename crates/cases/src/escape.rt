@@ -20,7 +20,7 @@ fn nibble(digit: u8) -> Result<u8, AnyError> {
     }
 }
 
-pub fn unescape(heap: Global, text: &str) -> Result<Vec<u8>, AnyError> {
+pub(crate) fn unescape(heap: Global, text: &str) -> Result<Vec<u8>, AnyError> {
     let mut parts = text.split('\\');
     let mut bytes = Vec::new(heap);
     if let Some(first) = parts.next() {

@@ -63,7 +63,7 @@ fn after_reading(cells: &[i32], count: usize) -> Outcome {
 
 impl Outcome {
     // Reads a text into `room` cells.
-    pub fn of(heap: Global, text: &[u8], room: usize) -> Result<Outcome, AllocError> {
+    pub(crate) fn of(heap: Global, text: &[u8], room: usize) -> Result<Outcome, AllocError> {
         let mut cells: Vec<i32> = vec![in heap; MARKER; room]?;
         let answer = read(text, &mut cells);
         cells.push(MARKER)?;

@@ -23,7 +23,7 @@ same-no a b e = grind (arith, ints)
 both-true : (a b : Bool) → a ≡ true → b ≡ true → both a b ≡ true
 both-true a b p q = ap (λ x. both x b) p ∙ q
 
-both-false : (a b : Bool) → b ≡ false → both a b ≡ false
+pub both-false : (a b : Bool) → b ≡ false → both a b ≡ false
 both-false true b q = q
 both-false false b q = refl
 

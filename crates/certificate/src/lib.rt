@@ -4,3 +4,4 @@ mod judge;
 pub mod kind;
 mod line;
 mod offset;
+mod watch;

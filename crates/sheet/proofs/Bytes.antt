@@ -3,10 +3,9 @@ use mathlib.Core.Path.{_≡_, refl, sym, ap, subst, _∙_}
 use mathlib.Core.Bool.{Bool, true, false, cond}
 use mathlib.Core.List.{List, [], _∷_, _++_}
 use Prim.Native.Nat.{ℕ, suc, _+_, _-_, _*_, _^_, _<_, _≤_}
-use native.Mathlib.Nat.{add-assoc, mod-eq-of-lt, pow-suc, pow-le-pow-right}
+use native.Mathlib.Nat.{add-assoc, pow-suc, pow-le-pow-right}
 use native.Mathlib.Numerals.{add-one}
 use native.Mathlib.Omega.{arith}
-use lib.Bits.{bitAnd, bitOr, or-add-and, and-le-l, and-le-r, and-mask}
 use lib.Dec.{lit<}
 use borrow.Author.Tests.{ne-eqb}
 use lib.ListN.{length, getD, take, drop, length-drop}
@@ -74,8 +73,12 @@ module _ (text : List ℕ) (p : Place) (k n v : ℕ) (left : k ≡ suc n) where
 pub shifted-small : (i v d : ℕ) → v < 16 ^ i → d < 16 → v * 16 + d < 16 ^ (i + 1)
 shifted-small i v d hv hd = rw (add-one, pow-suc) (omega arith)
 
-pub seven-digits : (i v : ℕ) → i < 8 → v < 16 ^ i → v < 268435456
-seven-digits i v hi hv = let most : 16 ^ i ≤ 16 ^ 7 = pow-le-pow-right (lit< tt) {i = i} {j = 7} (omega arith) in omega arith
+pub seven-digits : (i : ℕ) → i < 8 → 16 ^ i ≤ 268435456
+seven-digits i h = pow-le-pow-right (lit< tt) {i = i} {j = 7} (omega arith)
+
+-- a bound on a sum of entries that may be no digits, none of them above `most`: it shows that 64 bits hold the sum
+pub shifted-most : (i v d most : ℕ) → 15 * v + most ≤ most * 16 ^ i → d ≤ most → 15 * (v * 16 + d) + most ≤ most * 16 ^ (i + 1)
+shifted-most i v d most hv hd = rw (add-one, pow-suc) (omega arith)
 
 -- the end of a line
 module _ (text : List ℕ) (p : Place) where
@@ -96,13 +99,6 @@ part-more part more i v d p here e =
     ∙ ap (λ l. digits (suc (length part - (i + 1))) v (l ++ more) (ahead p i)) (drop-more part i 0 here)
     ∙ ap (λ o. next (shift v (getD part i 0) (ahead p i) o) (λ w. digits (length part - (i + 1)) w (drop (i + 1) part ++ more) (ahead (ahead p i) 1))) e
     ∙ ap (digits (length part - (i + 1)) (v * 16 + d) (drop (i + 1) part ++ more)) (ahead-more p i 1 refl refl)
-
--- neither of two numbers passes what both together stay below
-pub or-small : (a b : ℕ) → bitOr a b < 16 → (a < 16) × (b < 16)
-or-small a b h = (omega (arith, or-add-and a b, and-le-r a b), omega (arith, or-add-and a b, and-le-l a b))
-
-pub low-digit : (d : ℕ) → d < 16 → bitAnd d 15 ≡ d
-low-digit d h = and-mask d 4 ∙ mod-eq-of-lt h
 
 -- the bytes from a place on, all digits
 module _ (text : List ℕ) (p : Place) (count v : ℕ) (inside : p .byte ≤ length text) (here : count ≤ length text - p .byte) (whole : Whole (take (p .byte + count - p .byte) (drop (p .byte) text)) (Some v)) where

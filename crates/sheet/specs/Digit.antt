@@ -20,7 +20,7 @@ abbrev pub one-digit : List ℕ → Place → Result ℕ FieldFault
 one-digit [] p = Err (Over p)
 one-digit (b ∷ bytes) p = digit-of b p (nibble b)
 
--- bytes that are all digits, and their number, wherever they stand
+-- bytes that are all digits, and their number, wherever they stand; None says nothing, since the bytes are then judged one by one
 abbrev pub Whole : List ℕ → Option ℕ → Type 0
 Whole part None = Unit {0}
 Whole part (Some v) = (v < 16 ^ length part) × ((more : List ℕ) (p : Place) → digits (length part) 0 (part ++ more) p ≡ Ok v)

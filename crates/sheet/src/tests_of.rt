@@ -64,7 +64,7 @@ pub(crate) fn count_of(value: i64) -> u64
     if value < 0 { 0 } else { value as u64 }
 }
 
-fn holds_in(range: Range, value: i64) -> bool
+pub(crate) fn holds_in(range: Range, value: i64) -> bool
     ensures { λ r. ⌜ r ≡ holds range value ⌝ }
 {
     match range {

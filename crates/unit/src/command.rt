@@ -15,7 +15,7 @@ pub enum Command<'a> {
     Describe,
 }
 
-pub fn parse<'a>(heap: Global, line: &'a str) -> Result<Command<'a>, Mistake> {
+pub(crate) fn parse<'a>(heap: Global, line: &'a str) -> Result<Command<'a>, Mistake> {
     let mut words = line.split_whitespace();
     let name = words.next().unwrap_or("");
     let command = match name {

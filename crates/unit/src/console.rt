@@ -32,14 +32,14 @@ pub struct Console {
 }
 
 impl Console {
-    pub fn new(heap: Global) -> Console {
+    pub(crate) fn new(heap: Global) -> Console {
         Console {
             heap,
             stage: Stage::Empty,
         }
     }
 
-    pub fn obey(&mut self, rt: &LibcRuntime, line: &str) -> Result<Answer, Failure> {
+    pub(crate) fn obey(&mut self, rt: &LibcRuntime, line: &str) -> Result<Answer, Failure> {
         let command = parse(self.heap, line)?;
         self.execute(rt, command)
     }

@@ -14,7 +14,7 @@ pub struct Description {
     rank_numbers: i32,
 }
 
-pub fn describe<S: Source>(source: &S) -> Description {
+pub(crate) fn describe<S: Source>(source: &S) -> Description {
     Description {
         variables: source.cell(0),
         places: source.cell(1),

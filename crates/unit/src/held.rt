@@ -17,7 +17,7 @@ pub struct Held {
 }
 
 impl Held {
-    pub fn open(cells: Vec<i32>) -> Result<Held, OpenFault> {
+    pub(crate) fn open(cells: Vec<i32>) -> Result<Held, OpenFault> {
         judge(cells.as_slice())?;
         Ok(Held { cells })
     }

@@ -14,10 +14,10 @@ returns-in-Break-digit c =
     rw (p .1, p .2) (record { same = told .same ∙ c .loop .inv .0; read = sym (sym (c .loop .inv .3) ∙ stop); behind = tt })
 
 pub mul-value : need.mul-value
-mul-value c = record { fits = omega (arith, seven-digits (c .loop .counter) (c .loop .value) (omega arith) (c .loop .inv .1)) }
+mul-value c = record { fits = omega (arith, seven-digits (c .loop .counter) (omega arith), c .loop .inv .1) }
 
 pub add-value : need.add-value
-add-value c = record { fits = omega (arith, c .in-Continue-digit .ensures tt .behind .0, seven-digits (c .loop .counter) (c .loop .value) (omega arith) (c .loop .inv .1)) }
+add-value c = record { fits = omega (arith, c .in-Continue-digit .ensures tt .behind .0, seven-digits (c .loop .counter) (omega arith), c .loop .inv .1) }
 
 pub loop-again : need.loop-again
 loop-again c =
