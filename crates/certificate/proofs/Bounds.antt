@@ -18,3 +18,10 @@ product-bounds most (negsuc a) h lo hi lo′ hi′ = absurd (omega (arith, ints)
 pub fits-64 : (z : ℤ) → negsuc 9223372036854775807 ≤ℤ z → z ≤ℤ pos 9223372036854775807 → SFits w64 z
 fits-64 (pos n) lo hi = record { sfits = omega (arith, ints) }
 fits-64 (negsuc n) lo hi = record { sfits = omega (arith, ints) }
+
+-- two numbers of rows
+pub short-bounds : (a b : ℤ) → negsuc 32767 ≤ℤ a → a ≤ℤ pos 32767 → negsuc 32767 ≤ℤ b → b ≤ℤ pos 32767 → (negsuc 1073741823 ≤ℤ (a *ℤ b)) × ((a *ℤ b) ≤ℤ pos 1073741824)
+short-bounds (pos a) (pos b) p q r s = let up = mul-le a b 32768 32768 (omega (arith, ints)) (omega (arith, ints)) in (omega (arith, ints), omega (arith, ints))
+short-bounds (pos a) (negsuc b) p q r s = let up = mul-le a (suc b) 32768 32768 (omega (arith, ints)) (omega (arith, ints)) in (omega (arith, ints), omega (arith, ints))
+short-bounds (negsuc a) (pos b) p q r s = let up = mul-le (suc a) b 32768 32768 (omega (arith, ints)) (omega (arith, ints)) in (omega (arith, ints), omega (arith, ints))
+short-bounds (negsuc a) (negsuc b) p q r s = let up = mul-le (suc a) (suc b) 32768 32768 (omega (arith, ints)) (omega (arith, ints)) in (omega (arith, ints), omega (arith, ints))

@@ -44,3 +44,17 @@ module _ (row : List ℤ) (n : ℕ) (f : ℕ → ℤ) (is : (k : ℕ) → getD r
       (λ (l : n < k). let zero : getD row k (pos 0) ≡ pos 0 = is k ∙ ap (λ t. cond t (f k) (pos 0)) (lt-leb k n l) in (omega (arith, ints), omega (arith, ints)))
       (λ (l : k ≤ n). let same : getD row k (pos 0) ≡ f k = is k ∙ ap (λ t. cond t (f k) (pos 0)) (le-leb k n l) in let h = small k l in (rw same (leZ-yes (both-left _ _ h)), rw same (leZ-yes (both-right (leZ (negsuc 32767) (f k)) _ h))))
       (order n k)
+
+-- what holds of 0 and of a value holds of a row after the value is set
+pub set-all : (P : ℤ → Type 0) (row : List ℤ) (j : ℕ) (v : ℤ) → j < length row → P v → ((k : ℕ) → P (getD row k (pos 0))) → (k : ℕ) → P (getD (set row j v) k (pos 0))
+set-all P row j v inside p h k = ⊎-elim other (λ (n : j ≤ k). ⊎-elim (λ (m : j < k). subst P (sym (getD-set-other row j k v (pos 0) (omega arith))) (h k)) (λ (m : k ≤ j). here (omega arith)) (order j k)) (order k j)
+  where
+    other : k < j → P (getD (set row j v) k (pos 0))
+    other l = subst P (sym (getD-set-other row j k v (pos 0) (omega arith))) (h k)
+
+    here : k ≡ j → P (getD (set row j v) k (pos 0))
+    here e = subst (λ i. P (getD (set row j v) i (pos 0))) (sym e) (subst P (sym (getD-set-same row j v (pos 0) inside)) p)
+
+-- the columns below a bound that is reached
+pub filled-at : (row : List ℤ) (n : ℕ) (f : ℕ → ℤ) → Filled row n f → (k : ℕ) → k < n → getD row k (pos 0) ≡ f k
+filled-at row n f h k l = h k ∙ ap (λ t. cond t (f k) (pos 0)) (lt-ltb k n l)

@@ -38,3 +38,10 @@ Wide row = (j : ℕ) → (negsuc 34359738367 ≤ℤ getD row j (pos 0)) × (getD
 -- the numbers of a row as a sheet has them
 abbrev pub Short : List ℤ → Type 0
 Short row = (j : ℕ) → (negsuc 32767 ≤ℤ getD row j (pos 0)) × (getD row j (pos 0) ≤ℤ pos 32767)
+
+abbrev pub All-short : List (List ℤ) → Type 0
+All-short rows = (k : ℕ) → Short (getD rows k [])
+
+-- the columns that there are agree with a row
+abbrev pub Agrees : List ℤ → Row → Type 0
+Agrees numbers row = (j : ℕ) → j < 7 → getD numbers j (pos 0) ≡ row j

@@ -4,4 +4,5 @@ mod judge;
 pub mod kind;
 mod line;
 mod offset;
+mod rows;
 mod watch;
