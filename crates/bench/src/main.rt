@@ -5,9 +5,10 @@ mod timing;
 mod writer;
 
 use sheet::opening;
-use sheet::opening::SheetSource;
 use sheet::read::read;
-use sheet::source::Source;
+use sources::sheet::SheetSource;
+use sources::sheet::run_down;
+use sources::source::Source;
 use std::error::AnyError;
 use std::rt::Clock;
 use std::time::Instant;
@@ -41,7 +42,7 @@ fn count_read(text: &[u8], cells: &mut [i32]) -> usize {
 
 // Opens the cells and tells the last one, or 0 where they are refused.
 fn last_opened(cells: &[i32]) -> i32 {
-    let mut sheet = opening::run_down();
+    let mut sheet = run_down();
     match opening::open(cells, &mut sheet) {
         Ok(()) => sheet.cell(sheet.count().wrapping_sub(1)),
         Err(_) => 0,

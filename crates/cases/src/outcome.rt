@@ -2,6 +2,7 @@
 use layout::fault::Refusal;
 use sheet::opening;
 use sheet::read::read;
+use sources::sheet::run_down;
 use std::alloc::AllocError;
 use std::alloc::Global;
 use std::fmt;
@@ -29,12 +30,12 @@ fn untouched(cells: &[i32]) -> bool {
 }
 
 fn opens(cells: &[i32]) -> bool {
-    let mut sheet = opening::run_down();
+    let mut sheet = run_down();
     opening::open(cells, &mut sheet).is_ok()
 }
 
 fn is_refused(cells: &[i32]) -> bool {
-    let mut sheet = opening::run_down();
+    let mut sheet = run_down();
     match opening::open(cells, &mut sheet) {
         Ok(()) => false,
         Err(fault) => {

@@ -9,7 +9,7 @@ ghost use Rattle.dossier.specs.Dossier as view;
 ghost use Rattle.dossier.specs.Ranges.{Small-row};
 ghost use Rattle.certificate.specs.Arrays.{row-of, Short};
 use layout::head::Head;
-use sheet::source::Source;
+use sources::source::Source;
 
 // The number that stands at an index where a count is due.
 pub(crate) fn number<S: Source>(source: &S, index: usize) -> usize

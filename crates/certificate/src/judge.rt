@@ -9,7 +9,7 @@ ghost use Rattle.dossier.specs.Ranges.{Line};
 ghost use Rattle.certificate.specs.Arrays.{row-of, rows-of, All-moderate, Wide};
 use crate::line::line_holds;
 use layout::head::Head;
-use sheet::source::Source;
+use sources::source::Source;
 
 // Whether the line holds whose divisor stands at an index, with its multipliers behind.
 pub(crate) fn judge<S: Source>(

@@ -10,7 +10,7 @@ use crate::cells::number;
 use crate::offset::edge_at;
 use dossier::fault::AdmitFault;
 use layout::head::Head;
-use sheet::source::Source;
+use sources::source::Source;
 
 // Whether a letter has every bit of an edge's must mask and none of its must-not mask.
 fn edge_matches<S: Source>(source: &S, head: &Head, edge: usize, letter: usize) -> bool

@@ -12,7 +12,7 @@ use Rattle.layout.specs.declared.fault.OpenFault.{OpenFault}
 use Rattle.layout.specs.declared.fault.OpenFault.the-variants.{NotWellFormed}
 use Rattle.layout.specs.declared.fault.ReadFault.{ReadFault}
 use Rattle.layout.specs.Refusals.{refused, told, read-refusal, open-refusal}
-use Rattle.sheet.specs.declared.sheet.Sheet.{Sheet}
+use Rattle.sources.specs.declared.sheet.Sheet.{Sheet}
 
 -- reading: the count of the list, whose cells stand at the front; the others stand unchanged, and after a fault all do
 abbrev pub Read : Result (List ℤ) ReadFault → Result ℕ ReadFault → List ℤ → List ℤ → Type 0

@@ -1,4 +1,4 @@
-// Reads the text of a sheet into cells, opens a list of cells, and tells dossiers cell by cell.
+// Reads the text of a sheet into cells, and opens a list of cells as a sheet.
 mod checker;
 mod checking;
 mod due;
@@ -6,7 +6,5 @@ pub mod opening;
 pub mod read;
 mod reader;
 mod reading;
-pub mod sheet;
-pub mod source;
 mod tests_of;
 mod walk;

@@ -1,19 +1,15 @@
 // Opening a list of cells as a sheet.
 ghost use mathlib.Core.Path.{_≡_};
 ghost use denote.Ref.{now};
-ghost use Rattle.layout.specs.Cases.{run-down-cells};
 ghost use Rattle.layout.specs.Cells.{well-formed};
 ghost use Rattle.sheet.specs.Outcomes.{verdict, Opened};
 use crate::checker::Checker;
 use crate::checking::CellFields;
-use crate::sheet::Sheet;
-use crate::source::RUN_DOWN;
-use crate::source::Source;
-use crate::tests_of::value_at;
 use crate::walk::body;
 use crate::walk::head;
 use layout::fault::OpenFault;
 use layout::fault::Place;
+use sources::sheet::Sheet;
 
 // Goes through a list of cells as through a sheet.
 fn check(list: &[i32]) -> Result<(), OpenFault>
@@ -41,25 +37,4 @@ pub fn open<'a>(list: &'a [i32], place: &mut Sheet<'a>) -> Result<(), OpenFault>
     check(list)?;
     *place = Sheet { list };
     Ok(())
-}
-
-// The sheet that stands before any is opened: one over the run-down cells.
-pub fn run_down<'a>() -> Sheet<'a>
-    ensures { λ r. ⌜ now (r .list) ≡ run-down-cells ⌝ }
-{
-    Sheet { list: &RUN_DOWN }
-}
-
-pub impl<'a> Source for Sheet<'a> as SheetSource {
-    ghost cells = { λ s. now (s .list) };
-
-    ghost formed = { λ s. s .formed };
-
-    fn count(&self) -> usize {
-        self.list.len()
-    }
-
-    fn cell(&self, index: usize) -> i32 {
-        value_at(self.list, index)
-    }
 }

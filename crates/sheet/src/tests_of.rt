@@ -8,17 +8,7 @@ ghost use Rattle.layout.specs.Cells.{between, holds, writable, passes};
 use layout::field::Digits;
 use layout::field::Range;
 use layout::field::Test;
-
-// The field at an index, 0 beyond the last.
-pub(crate) fn value_at(values: &[i32], index: usize) -> i32
-    ensures { λ r. ⌜ r ≡ getD (now (values .entry)) index (pos 0) ⌝ }
-{
-    if index < values.len() {
-        values[index]
-    } else {
-        0
-    }
-}
+use sources::cells::value_at;
 
 // One below a count, and -1 where it is none.
 fn one_below(count: i32) -> i32

@@ -14,7 +14,6 @@ ghost use Rattle.sheet.specs.Store.{put, Found, Valued, Stored, Led, Headed};
 use crate::due::groups;
 use crate::tests_of::count_of;
 use crate::tests_of::range_of;
-use crate::tests_of::value_at;
 use layout::field::Digits;
 use layout::field::Field;
 use layout::field::Range;
@@ -22,6 +21,7 @@ use layout::field::Test;
 use layout::frame::Frame;
 use layout::frame::Group;
 use layout::head::Head;
+use sources::cells::value_at;
 
 pub(crate) trait Fields {
     type Fault;

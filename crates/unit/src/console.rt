@@ -14,7 +14,7 @@ use crate::held::HeldSource;
 use crate::mistake::Mistake;
 use crate::refused::Refused;
 use sheet::read::read;
-use sheet::source::Source;
+use sources::source::Source;
 use std::alloc::Global;
 use std::fs;
 

@@ -1,5 +1,5 @@
 // A dossier in numbers, from the head of its cells.
-use sheet::source::Source;
+use sources::source::Source;
 use std::fmt;
 
 #[derive(Clone, Copy)]

@@ -2,9 +2,9 @@
 ghost use Rattle.unit.specs.Dossiers.{dossier-cells, dossier-formed};
 use crate::held::Held;
 use crate::held::HeldSource;
-use sheet::source::BuiltIn;
-use sheet::source::BuiltInSource;
-use sheet::source::Source;
+use sources::built_in::BuiltIn;
+use sources::built_in::BuiltInSource;
+use sources::source::Source;
 
 #[derive(Drop)]
 pub enum Dossier {

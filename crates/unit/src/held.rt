@@ -6,9 +6,9 @@ ghost use Rattle.sheet.specs.Outcomes.{verdict};
 ghost use Rattle.std.specs.Of.Vec.{vec-items};
 use layout::fault::OpenFault;
 use sheet::opening::open;
-use sheet::opening::run_down;
-use sheet::sheet::Sheet;
-use sheet::source::Source;
+use sources::sheet::Sheet;
+use sources::sheet::run_down;
+use sources::source::Source;
 
 #[derive(Drop)]
 pub struct Held {

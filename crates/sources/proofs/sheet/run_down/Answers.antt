@@ -1,5 +1,5 @@
 use Rattle.layout.proofs.Worked.{run-down-formed}
-use Rattle.sheet.proofs.opening.run_down.Needs as need
+use Rattle.sources.proofs.sheet.run_down.Needs as need
 
 pub ghost-result : need.ghost-result
 ghost-result c = (run-down-formed, tt)
