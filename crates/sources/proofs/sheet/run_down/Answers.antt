@@ -1,5 +1,5 @@
 use Rattle.layout.proofs.Worked.{run_down_formed}
 use Rattle.sources.proofs.sheet.run_down.Goals as goal
 
-pub invariant-of-result : goal.invariant-of-result
-invariant-of-result c = (run_down_formed, tt)
+pub invariant_of-result : goal.invariant_of-result
+invariant_of-result c = record { formed = run_down_formed }
