@@ -37,8 +37,8 @@ pub(crate) fn push_conclusions<S: Source, K: RankKind>(
     old: &Table,
     table: &mut Table,
 )
-    requires head_value { (counts_of head.now ≡ view.head (S.Source.cells source.now)) × (((view.head (S.Source.cells source.now)).rank_numbers ≡ K.RankKind.kind.numbers) × ((step < (view.head (S.Source.cells source.now)).steps) × (edge < (view.head (S.Source.cells source.now)).edges))) }
-    requires table_len_bound { (length (held table.old) ≤ 12) × (Begins (held old.now) (admission.point_hypotheses (S.Source.cells source.now) (admission.first_point (S.Source.cells source.now) step edge))) }
+    requires inside { (counts_of head.now ≡ view.head (S.Source.cells source.now)) × (((view.head (S.Source.cells source.now)).rank_numbers ≡ K.RankKind.kind.numbers) × ((step < (view.head (S.Source.cells source.now)).steps) × (edge < (view.head (S.Source.cells source.now)).edges))) }
+    requires ready { (length (held table.old) ≤ 12) × (Begins (held old.now) (admission.point_hypotheses (S.Source.cells source.now) (admission.first_point (S.Source.cells source.now) step edge))) }
     ensures { held table.new ≡ held table.old ++ admission.move_conclusions (S.Source.cells source.now) K.RankKind.kind mode step edge }
 {
     let numbers = head.rank_numbers as usize;

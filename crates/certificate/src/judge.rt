@@ -19,7 +19,7 @@ pub(crate) fn judge<S: Source>(
     hypotheses: &Table,
     conclusion: &[i64; 7],
 ) -> bool
-    requires head_value { (counts_of head.now ≡ view.head (S.Source.cells source.now)) × ((at < 2 ^ 32) × (length (held hypotheses.now) ≤ 18)) }
+    requires inside { (counts_of head.now ≡ view.head (S.Source.cells source.now)) × ((at < 2 ^ 32) × (length (held hypotheses.now) ≤ 18)) }
     requires line { (Line (S.Source.cells source.now) at (length (held hypotheses.now))) × ((RowsWithin wide (held hypotheses.now)) × (RowWithin wide (row_of conclusion.now))) }
     ensures { result ≡ admission.line_at (S.Source.cells source.now) at (length (held hypotheses.now)) (held hypotheses.now) (row_of conclusion.now) }
 {

@@ -54,7 +54,7 @@ pub(crate) fn move_claims<S: Source, K: RankKind>(
     hypotheses: &Table,
     table: &mut Table,
 )
-    requires head_value { (counts_of head.now ≡ view.head (S.Source.cells source.now)) × (((view.head (S.Source.cells source.now)).rank_numbers ≡ K.RankKind.kind.numbers) × (index < admission.moves (S.Source.cells source.now))) }
+    requires inside { (counts_of head.now ≡ view.head (S.Source.cells source.now)) × (((view.head (S.Source.cells source.now)).rank_numbers ≡ K.RankKind.kind.numbers) × (index < admission.moves (S.Source.cells source.now))) }
     requires begins { Begins (held hypotheses.now) (admission.point_hypotheses (S.Source.cells source.now) (admission.first_point (S.Source.cells source.now) (admission.move_step (S.Source.cells source.now) index) (admission.move_edge (S.Source.cells source.now) index))) }
     ensures { held table.new ≡ admission.move_claims (S.Source.cells source.now) K.RankKind.kind index }
 {
@@ -88,7 +88,7 @@ fn choice_claims<S: Source, K: RankKind>(
     hypotheses: &Table,
     table: &mut Table,
 )
-    requires head_value { (counts_of head.now ≡ view.head (S.Source.cells source.now)) × (((view.head (S.Source.cells source.now)).rank_numbers ≡ K.RankKind.kind.numbers) × ((step < (view.head (S.Source.cells source.now)).steps) × (edge < (view.head (S.Source.cells source.now)).edges))) }
+    requires inside { (counts_of head.now ≡ view.head (S.Source.cells source.now)) × (((view.head (S.Source.cells source.now)).rank_numbers ≡ K.RankKind.kind.numbers) × ((step < (view.head (S.Source.cells source.now)).steps) × (edge < (view.head (S.Source.cells source.now)).edges))) }
     requires begins { Begins (held hypotheses.now) (admission.point_hypotheses (S.Source.cells source.now) (admission.first_point (S.Source.cells source.now) step edge)) }
     ensures { held table.new ≡ admission.choice_conclusions (S.Source.cells source.now) K.RankKind.kind mode step edge }
 {
@@ -108,8 +108,8 @@ pub(crate) fn point_claims<S: Source, K: RankKind>(
     hypotheses: &Table,
     table: &mut Table,
 )
-    requires head_value { (counts_of head.now ≡ view.head (S.Source.cells source.now)) × (((view.head (S.Source.cells source.now)).form ≡ 2) × (((view.head (S.Source.cells source.now)).rank_numbers ≡ K.RankKind.kind.numbers) × (point < view.points (view.head (S.Source.cells source.now))))) }
-    requires point_value { (admission.step_begins (S.Source.cells source.now) point ≡ true) × ((admission.edge_begins (S.Source.cells source.now) point ≡ true) × (held hypotheses.now ≡ admission.point_hypotheses (S.Source.cells source.now) point)) }
+    requires inside { (counts_of head.now ≡ view.head (S.Source.cells source.now)) × (((view.head (S.Source.cells source.now)).form ≡ 2) × (((view.head (S.Source.cells source.now)).rank_numbers ≡ K.RankKind.kind.numbers) × (point < view.points (view.head (S.Source.cells source.now))))) }
+    requires chosen { (admission.step_begins (S.Source.cells source.now) point ≡ true) × ((admission.edge_begins (S.Source.cells source.now) point ≡ true) × (held hypotheses.now ≡ admission.point_hypotheses (S.Source.cells source.now) point)) }
     ensures { held table.new ≡ admission.point_claims (S.Source.cells source.now) K.RankKind.kind point }
 {
     let at = choice_at(head, point);

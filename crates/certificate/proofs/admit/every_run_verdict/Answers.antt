@@ -10,9 +10,9 @@ returns g c =
     let kind = g.K.RankKind.kind in
     let cells = g.S.Source.cells c.args.source.now in
     record {
-      outcome = c.judge-every-run.ensures;
+      outcome = c.judge_every_run.ensures;
       exactly = exactly_law kind cells;
-      promised = if_ok c.judge-every-run.result (λ n e. every_run_theorem kind g.met.K.RankKind.lawful cells (g.S.Source.formed c.args.source.now) n (sym c.judge-every-run.ensures ∙ e));
+      promised = if_ok c.judge_every_run.result (λ n e. every_run_theorem kind g.met.K.RankKind.lawful cells (g.S.Source.formed c.args.source.now) n (sym c.judge_every_run.ensures ∙ e));
       line_law = line_law;
       worked = worked;
     }

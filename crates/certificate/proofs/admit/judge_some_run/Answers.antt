@@ -5,28 +5,28 @@ use Rattle.dossier.specs.Dossier as view
 use Rattle.certificate.proofs.Verdicts.{some_called_fails, shown_fails, choices_decide}
 use Rattle.certificate.proofs.admit.judge_some_run.Goals as goal
 
-pub returns-in-err-called-for : goal.returns-in-err-called-for
-returns-in-err-called-for g c =
+pub returns-in_err-called_for : goal.returns-in_err-called_for
+returns-in_err-called_for g c =
     let cells = g.S.Source.cells c.args.source.now in
     let kind = g.K.RankKind.kind in
     let h = counts_of c.head-head.result in
-    let p = err_from_is_err_and c.from-residual.result c.from-residual.ensures.1 in
-    rw (p.1, p.2) (some_called_fails kind cells h c.numbers.result c.head-head.ensures c.numbers.ensures _ c.in-err-called-for.ensures)
+    let p = err_from_is_err_and c.from_residual.result c.from_residual.ensures.1 in
+    rw (p.1, p.2) (some_called_fails kind cells h c.numbers.result c.head-head.ensures c.numbers.ensures _ c.in_err-called_for.ensures)
 
-pub returns-in-err-shown-hold : goal.returns-in-err-shown-hold
-returns-in-err-shown-hold g c =
+pub returns-in_err-shown_hold : goal.returns-in_err-shown_hold
+returns-in_err-shown_hold g c =
     let cells = g.S.Source.cells c.args.source.now in
     let kind = g.K.RankKind.kind in
     let h = counts_of c.head-head.result in
-    let p = err_from_is_err_and c.from-residual-in-err-shown-hold.result c.from-residual-in-err-shown-hold.ensures.1 in
-    rw (p.1, p.2) (shown_fails kind cells h c.numbers.result c.head-head.ensures c.numbers.ensures c.in-ok-called-for.ensures _ c.in-err-shown-hold.ensures)
+    let p = err_from_is_err_and c.from_residual-in_err-shown_hold.result c.from_residual-in_err-shown_hold.ensures.1 in
+    rw (p.1, p.2) (shown_fails kind cells h c.numbers.result c.head-head.ensures c.numbers.ensures c.in_ok-called_for.ensures _ c.in_err-shown_hold.ensures)
 
 pub returns-in-Some : goal.returns-in-Some
 returns-in-Some g c =
     let cells = g.S.Source.cells c.args.source.now in
     let kind = g.K.RankKind.kind in
     let h = counts_of c.head-head.result in
-    choices_decide kind cells h c.numbers.result c.head-head.ensures c.numbers.ensures c.in-ok-called-for.ensures c.in-ok-shown-hold.ensures (Some c.in-Some.fault) c.in-Some.ensures
+    choices_decide kind cells h c.numbers.result c.head-head.ensures c.numbers.ensures c.in_ok-called_for.ensures c.in_ok-shown_hold.ensures (Some c.in-Some.fault) c.in-Some.ensures
 
 pub returns : goal.returns
 returns g c =
@@ -34,4 +34,4 @@ returns g c =
     let kind = g.K.RankKind.kind in
     let h = counts_of c.head-head.result in
     let count = ap₂ ◌*◌ (c.points.ensures.0 ∙ ap view.points c.head-head.ensures) (c.point_conclusions.ensures.0 ∙ ap view.point_conclusions c.head-head.ensures) in
-    ap Ok count ∙ choices_decide kind cells h c.numbers.result c.head-head.ensures c.numbers.ensures c.in-ok-called-for.ensures c.in-ok-shown-hold.ensures None c.in-default.ensures
+    ap Ok count ∙ choices_decide kind cells h c.numbers.result c.head-head.ensures c.numbers.ensures c.in_ok-called_for.ensures c.in_ok-shown_hold.ensures None c.in_default.ensures

@@ -8,7 +8,7 @@ returns g c =
     let kind = g.K.RankKind.kind in
     let cells = g.S.Source.cells c.args.source.now in
     record {
-      outcome = c.judge-some-run.ensures;
+      outcome = c.judge_some_run.ensures;
       exactly = exactly_law kind cells;
-      promised = if_ok c.judge-some-run.result (λ n e. some_run_theorem kind g.met.K.RankKind.lawful cells (g.S.Source.formed c.args.source.now) n (sym c.judge-some-run.ensures ∙ e));
+      promised = if_ok c.judge_some_run.result (λ n e. some_run_theorem kind g.met.K.RankKind.lawful cells (g.S.Source.formed c.args.source.now) n (sym c.judge_some_run.ensures ∙ e));
     }

@@ -13,8 +13,8 @@ use Rattle.certificate.proofs.Places.{move_below, step_below, edge_below}
 use Rattle.certificate.proofs.Tables.{held_length}
 use Rattle.certificate.proofs.every_run.failing_line.Goals as goal
 
-pub move-hypotheses-requires : goal.move-hypotheses-requires
-move-hypotheses-requires g c =
+pub move_hypotheses-requires : goal.move_hypotheses-requires
+move_hypotheses-requires g c =
     let cells = g.S.Source.cells c.args.source.now in
     let m = c.search.index in
     let below : m < admission.moves cells = omega (arith, ap (λ h. h.steps * h.edges) c.requires.0) in
@@ -27,8 +27,8 @@ move-hypotheses-requires g c =
       ),
     )
 
-pub move-line-at-at-requires : goal.move-line-at-at-requires
-move-line-at-at-requires g c =
+pub move_line_at-at-requires : goal.move_line_at-at-requires
+move_line_at-at-requires g c =
     let cells = g.S.Source.cells c.args.source.now in
     let m = c.search.index in
     let below : m < admission.moves cells = omega (arith, ap (λ h. h.steps * h.edges) c.requires.0) in
@@ -49,8 +49,8 @@ judge-requires g c =
     let edges = ap (λ h. h.edges) c.requires.0 in
     let assumed = c.move_hypotheses.ensures ∙ ap (λ n. admission.move_hypotheses_of cells (m / n) (m % n)) edges in
     let j = judgement (move_group cells (g.S.Source.formed c.args.source.now) g.K.RankKind.kind g.met.K.RankKind.lawful c.requires.1.1 c.requires.1.0 m below) c.move_hypotheses.new.table c.move_claims.new.table assumed c.move_claims.ensures c.loop-line.line c.loop-line-test.true
-    (c.move-line-at-at.ensures.0 ∙ ap (λ h. view.move_line_at h m c.loop-line.line) c.requires.0) c.row.ensures in
-    ((c.requires.0, (omega (arith, c.move-line-at-at.ensures.1), j.few)), (j.line, (j.assumed, j.shown)))
+    (c.move_line_at-at.ensures.0 ∙ ap (λ h. view.move_line_at h m c.loop-line.line) c.requires.0) c.row.ensures in
+    record { inside = (c.requires.0, (omega (arith, c.move_line_at-at.ensures.1), j.few)); line = (j.line, (j.assumed, j.shown)) }
 
 pub loop-line-preserved : goal.loop-line-preserved
 loop-line-preserved g c =
@@ -60,7 +60,7 @@ loop-line-preserved g c =
     let edges = ap (λ h. h.edges) c.requires.0 in
     let assumed = c.move_hypotheses.ensures ∙ ap (λ n. admission.move_hypotheses_of cells (m / n) (m % n)) edges in
     let j = judgement (move_group cells (g.S.Source.formed c.args.source.now) g.K.RankKind.kind g.met.K.RankKind.lawful c.requires.1.1 c.requires.1.0 m below) c.move_hypotheses.new.table c.move_claims.new.table assumed c.move_claims.ensures c.loop-line.line c.loop-line-test.true
-    (c.move-line-at-at.ensures.0 ∙ ap (λ h. view.move_line_at h m c.loop-line.line) c.requires.0) c.row.ensures in
+    (c.move_line_at-at.ensures.0 ∙ ap (λ h. view.move_line_at h m c.loop-line.line) c.requires.0) c.row.ensures in
     (c.loop-line.invariant.0, more (admission.line_trial cells (view.move_line_at (view.head cells) m) (view.move_hypotheses (view.head cells)) (admission.move_hypotheses_of cells (admission.move_step cells m) (admission.move_edge cells m)) (MoveLine m)) zero_row (admission.move_claims cells g.K.RankKind.kind m) c.loop-line.line j.inside (sym (c.if-not-judge.ensures ∙ j.judged)) c.loop-line.invariant.1)
 
 pub search-preserved : goal.search-preserved
@@ -80,6 +80,6 @@ returns-then-not-judge g c =
     let edges = ap (λ h. h.edges) c.requires.0 in
     let assumed = c.move_hypotheses.ensures ∙ ap (λ n. admission.move_hypotheses_of cells (m / n) (m % n)) edges in
     let j = judgement (move_group cells (g.S.Source.formed c.args.source.now) g.K.RankKind.kind g.met.K.RankKind.lawful c.requires.1.1 c.requires.1.0 m below) c.move_hypotheses.new.table c.move_claims.new.table assumed c.move_claims.ensures c.loop-line.line c.loop-line-test.true
-    (c.move-line-at-at.ensures.0 ∙ ap (λ h. view.move_line_at h m c.loop-line.line) c.requires.0) c.row.ensures in
+    (c.move_line_at-at.ensures.0 ∙ ap (λ h. view.move_line_at h m c.loop-line.line) c.requires.0) c.row.ensures in
     let fault = fails (admission.line_trial cells (view.move_line_at (view.head cells) m) (view.move_hypotheses (view.head cells)) (admission.move_hypotheses_of cells (admission.move_step cells m) (admission.move_edge cells m)) (MoveLine m)) zero_row (admission.move_claims cells g.K.RankKind.kind m) c.loop-line.line j.inside (sym (c.if-not-judge.ensures ∙ j.judged)) c.loop-line.invariant.1 in
     sym (joined_first (admission.moves cells) (admission.move_trials cells g.K.RankKind.kind) m (MoveLine m c.loop-line.line) below fault c.search.invariant.1)

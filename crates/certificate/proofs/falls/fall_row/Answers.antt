@@ -6,7 +6,7 @@ use Rattle.certificate.proofs.FallRows.{less_zero}
 use Rattle.certificate.proofs.falls.fall_row.Goals as goal
 
 pub returns-in-Keeps : goal.returns-in-Keeps
-returns-in-Keeps c = c.fallen.ensures ∙ less_zero _ ∙ sym (ap (λ f. fall_row f (rows_from (held c.args.old.now) c.args.old-at) (rows_from (held c.args.new.now) c.args.new-at)) c.in-Keeps.is)
+returns-in-Keeps c = c.fallen.ensures ∙ less_zero _ ∙ sym (ap (λ f. fall_row f (rows_from (held c.args.old.now) c.args.old_at) (rows_from (held c.args.new.now) c.args.new_at)) c.in-Keeps.is)
 
 pub returns-in-Drops : goal.returns-in-Drops
-returns-in-Drops c = c.fallen-in-Drops.ensures ∙ sym (ap (λ f. fall_row f (rows_from (held c.args.old.now) c.args.old-at) (rows_from (held c.args.new.now) c.args.new-at)) c.in-Drops.is)
+returns-in-Drops c = c.fallen-in-Drops.ensures ∙ sym (ap (λ f. fall_row f (rows_from (held c.args.old.now) c.args.old_at) (rows_from (held c.args.new.now) c.args.new_at)) c.in-Drops.is)

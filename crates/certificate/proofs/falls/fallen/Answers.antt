@@ -5,11 +5,11 @@ use Rattle.certificate.specs.Arrays.{RowWithin, long}
 use Rattle.certificate.proofs.Tables.{held_length}
 use Rattle.certificate.proofs.falls.fallen.Goals as goal
 
-pub overflow-add-old-at : goal.overflow-add-old-at
-overflow-add-old-at c = Fits-below {n = 20} tt (omega (arith, c.requires.0.inside, held_length c.args.old.now, c.args.old.now.few))
+pub overflow_add-old_at : goal.overflow_add-old_at
+overflow_add-old_at c = Fits-below {n = 20} tt (omega (arith, c.requires.0.inside, held_length c.args.old.now, c.args.old.now.few))
 
-pub overflow-add-new-at : goal.overflow-add-new-at
-overflow-add-new-at c = Fits-below {n = 20} tt (omega (arith, c.requires.1.inside, held_length c.args.new.now, c.args.new.now.few))
+pub overflow_add-new_at : goal.overflow_add-new_at
+overflow_add-new_at c = Fits-below {n = 20} tt (omega (arith, c.requires.1.inside, held_length c.args.new.now, c.args.new.now.few))
 
 pub difference-requires : goal.difference-requires
 difference-requires c = (subst (RowWithin long) (sym c.row.ensures) c.requires.0.bounded, subst (RowWithin long) (sym c.row-2.ensures) c.requires.1.bounded)

@@ -17,26 +17,26 @@ inside g mode i n fall e f = subst (Inside n) (sym e) (subst (λ m. Inside m (g.
 abbrev rows : (g : given.Over) → ℕ → List Row → ℕ → List Row → ℕ → ℕ → Row
 rows g mode old i new j index = fall_row (g.K.RankKind.kind.fall mode index) (rows_from old i) (rows_from new j)
 
-pub fall-row-row-requires : goal.fall-row-row-requires
-fall-row-row-requires g c =
+pub fall_row-row-requires : goal.fall_row-row-requires
+fall_row-row-requires g c =
     let old = held c.args.old.now in
     let base = held c.args.table.now in
-    let more = each c.loop-index.index (rows g c.args.mode old c.args.old-at base c.args.new-at) in
-    ready c.args.numbers c.fall.result (inside g c.args.mode c.loop-index.index c.args.numbers c.fall.result c.fall.ensures c.requires.0) old (held c.loop-index.table) c.args.old-at c.args.new-at
-    (λ k l. let t = c.requires.1.1 k l in (t.0, subst (λ xs. There xs c.args.new-at k) (sym c.loop-index.invariant) (there_append base more c.args.new-at k t.1)))
+    let more = each c.loop-index.index (rows g c.args.mode old c.args.old_at base c.args.new_at) in
+    ready c.args.numbers c.fall.result (inside g c.args.mode c.loop-index.index c.args.numbers c.fall.result c.fall.ensures c.requires.0) old (held c.loop-index.table) c.args.old_at c.args.new_at
+    (λ k l. let t = c.requires.1.1 k l in (t.0, subst (λ xs. There xs c.args.new_at k) (sym c.loop-index.invariant) (there_append base more c.args.new_at k t.1)))
 
 pub push-requires : goal.push-requires
 push-requires g c =
-    omega (arith, c.requires.1.0, filled_length (held c.args.table.now) (held c.loop-index.table) c.loop-index.index (rows g c.args.mode (held c.args.old.now) c.args.old-at (held c.args.table.now) c.args.new-at) c.loop-index.invariant)
+    omega (arith, c.requires.1.0, filled_length (held c.args.table.now) (held c.loop-index.table) c.loop-index.index (rows g c.args.mode (held c.args.old.now) c.args.old_at (held c.args.table.now) c.args.new_at) c.loop-index.invariant)
 
 pub loop-index-preserved : goal.loop-index-preserved
 loop-index-preserved g c =
     let old = held c.args.old.now in
     let base = held c.args.table.now in
-    let all = rows g c.args.mode old c.args.old-at base c.args.new-at in
-    let same : fall_row c.fall.result (rows_from old c.args.old-at) (rows_from (held c.loop-index.table) c.args.new-at) ≡ all c.loop-index.index =
+    let all = rows g c.args.mode old c.args.old_at base c.args.new_at in
+    let same : fall_row c.fall.result (rows_from old c.args.old_at) (rows_from (held c.loop-index.table) c.args.new_at) ≡ all c.loop-index.index =
     fall_row_same c.args.numbers c.fall.result (inside g c.args.mode c.loop-index.index c.args.numbers c.fall.result c.fall.ensures c.requires.0)
-    (rows_from old c.args.old-at) (rows_from old c.args.old-at) (rows_from (held c.loop-index.table) c.args.new-at) (rows_from base c.args.new-at)
-    (λ k l. refl) (λ k l. ap (λ xs. rows_from xs c.args.new-at k) c.loop-index.invariant ∙ rows_from_append base (each c.loop-index.index all) c.args.new-at k (c.requires.1.1 k l).1.inside)
-    ∙ ap (λ f. fall_row f (rows_from old c.args.old-at) (rows_from base c.args.new-at)) c.fall.ensures in
-    pushed base (held c.loop-index.table) c.loop-index.index all c.loop-index.invariant _ _ c.push.ensures (c.fall-row-row.ensures ∙ same)
+    (rows_from old c.args.old_at) (rows_from old c.args.old_at) (rows_from (held c.loop-index.table) c.args.new_at) (rows_from base c.args.new_at)
+    (λ k l. refl) (λ k l. ap (λ xs. rows_from xs c.args.new_at k) c.loop-index.invariant ∙ rows_from_append base (each c.loop-index.index all) c.args.new_at k (c.requires.1.1 k l).1.inside)
+    ∙ ap (λ f. fall_row f (rows_from old c.args.old_at) (rows_from base c.args.new_at)) c.fall.ensures in
+    pushed base (held c.loop-index.table) c.loop-index.index all c.loop-index.invariant _ _ c.push.ensures (c.fall_row-row.ensures ∙ same)

@@ -6,4 +6,4 @@ use Rattle.certificate.specs.Falls.{rows_from}
 use Rattle.certificate.proofs.falls.push_falls.Given as goal
 
 abbrev pub invariant-loop-index : goal.invariant-loop-index
-invariant-loop-index g l = held l.table ≡ held l.initial.table ++ each l.index (λ i. fall_row (g.K.RankKind.kind.fall l.mode i) (rows_from (held l.old) l.old-at) (rows_from (held l.initial.table) l.new-at))
+invariant-loop-index g l = held l.table ≡ held l.initial.table ++ each l.index (λ i. fall_row (g.K.RankKind.kind.fall l.mode i) (rows_from (held l.old) l.old_at) (rows_from (held l.initial.table) l.new_at))

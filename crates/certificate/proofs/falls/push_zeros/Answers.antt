@@ -8,4 +8,4 @@ pub push-requires : goal.push-requires
 push-requires c = omega (arith, c.requires, filled_length (held c.args.table.now) (held c.loop-i.table) c.loop-i.i (λ _. zero_row) c.loop-i.invariant)
 
 pub loop-i-preserved : goal.loop-i-preserved
-loop-i-preserved c = pushed (held c.args.table.now) (held c.loop-i.table) c.loop-i.i (λ _. zero_row) c.loop-i.invariant _ _ c.push.ensures c.zero-row.ensures
+loop-i-preserved c = pushed (held c.args.table.now) (held c.loop-i.table) c.loop-i.i (λ _. zero_row) c.loop-i.invariant _ _ c.push.ensures c.zero_row.ensures

@@ -19,22 +19,22 @@ product-requires-2 c =
     let n : SFits w64 (get_or c.args.conclusion.now 0 (pos 0)) = search rules in
     simp to_z-of_z (factor_within _ c.requires.1.0, c.requires.1.1.1 0)
 
-pub returns-then-product-column-sum : goal.returns-then-product-column-sum
-returns-then-product-column-sum c =
+pub returns-then-product-column_sum : goal.returns-then-product-column_sum
+returns-then-product-column_sum c =
     let d : SFits w64 c.args.divisor = c.ranges.divisor in
     let n : SFits w64 (get_or c.args.conclusion.now (c.loop-j.j + 1) (pos 0)) = search rules in
     let scaled = simp to_z-of_z at c.product.ensures.0 in
     let ms = c.args.multipliers.now in
     let hs = rows_of c.args.hypotheses.now in
     let r = row_of c.args.conclusion.now in
-    sym (ap (λ x. both x (constant_suffices c.args.divisor ms hs r)) (agree_fails c.args.divisor ms hs r c.args.variables c.loop-j.j (omega arith) (λ e. c.if-product-column-sum.true (ap (of_z w64) (scaled ∙ e ∙ sym c.column-sum.ensures)))))
+    sym (ap (λ x. both x (constant_suffices c.args.divisor ms hs r)) (agree_fails c.args.divisor ms hs r c.args.variables c.loop-j.j (omega arith) (λ e. c.if-product-column_sum.true (ap (of_z w64) (scaled ∙ e ∙ sym c.column_sum.ensures)))))
 
 pub loop-j-preserved : goal.loop-j-preserved
 loop-j-preserved c =
     let d : SFits w64 c.args.divisor = c.ranges.divisor in
     let n : SFits w64 (get_or c.args.conclusion.now (c.loop-j.j + 1) (pos 0)) = search rules in
     let a : SFits w64 c.product.result = search rules in
-    let b : SFits w64 c.column-sum.result = search rules in
+    let b : SFits w64 c.column_sum.result = search rules in
     let scaled = simp to_z-of_z at c.product.ensures.0 in
-    let same : c.product.result ≡ c.column-sum.result = sym (to_z-of_z w64 c.product.result a) ∙ ap (to_z w64) c.if-product-column-sum.false ∙ to_z-of_z w64 c.column-sum.result b in
-    simp to_z-of_z (agree_more c.args.divisor c.args.multipliers.now (rows_of c.args.hypotheses.now) (row_of c.args.conclusion.now) c.loop-j.j (simp to_z-of_z at c.loop-j.invariant) (sym scaled ∙ same ∙ c.column-sum.ensures))
+    let same : c.product.result ≡ c.column_sum.result = sym (to_z-of_z w64 c.product.result a) ∙ ap (to_z w64) c.if-product-column_sum.false ∙ to_z-of_z w64 c.column_sum.result b in
+    simp to_z-of_z (agree_more c.args.divisor c.args.multipliers.now (rows_of c.args.hypotheses.now) (row_of c.args.conclusion.now) c.loop-j.j (simp to_z-of_z at c.loop-j.invariant) (sym scaled ∙ same ∙ c.column_sum.ensures))

@@ -10,8 +10,8 @@ bounded c = product_within 1048576 17179869184 c.args.factor c.args.number c.req
 fits : (c : goal.Start) → SFits w64 (c.args.factor *ℤ c.args.number)
 fits c = fits_64 _ (within_more 18014398509481984 _ _ (omega arith) (bounded c))
 
-pub overflow-mul-result : goal.overflow-mul-result
-overflow-mul-result c =
+pub overflow_mul-result : goal.overflow_mul-result
+overflow_mul-result c =
     let m : SFits w64 c.args.factor = c.ranges.factor in
     let n : SFits w64 c.args.number = c.ranges.number in
     simp to_z-of_z (fits c)

@@ -12,28 +12,28 @@ use Rattle.certificate.proofs.moves.choice_claims.Goals as goal
 guards_length : (cells : List ℤ) (t : ℕ) (none rows : List Row) → none ≡ [] → rows ≡ none ++ admission.guard_rows cells t → length rows ≡ (view.head cells).guards
 guards_length cells t none rows n r = ap length (r ∙ ap (λ xs. xs ++ admission.guard_rows cells t) n) ∙ length_guards cells t
 
-pub push-edge-rows-requires : goal.push-edge-rows-requires
-push-edge-rows-requires g c =
+pub push_edge_rows-requires : goal.push_edge_rows-requires
+push_edge_rows-requires g c =
     let cells = g.S.Source.cells c.args.source.now in
     let counts = (program_ranges cells (g.S.Source.formed c.args.source.now)).counts_in in
-    let guards = guards_length cells c.args.step (held c.clear.new.self) (held c.push-guards.new.table) c.clear.ensures c.push-guards.ensures in
-    (c.requires.0.0, (omega (arith, c.requires.0.1.1.1, counts.edges_high), omega (arith, guards, counts.guards_high, counts.propositions_high)))
+    let guards = guards_length cells c.args.step (held c.clear.new.self) (held c.push_guards.new.table) c.clear.ensures c.push_guards.ensures in
+    (c.requires.inside.0, (omega (arith, c.requires.inside.1.1.1, counts.edges_high), omega (arith, guards, counts.guards_high, counts.propositions_high)))
 
-pub push-conclusions-requires : goal.push-conclusions-requires
-push-conclusions-requires g c =
+pub push_conclusions-requires : goal.push_conclusions-requires
+push_conclusions-requires g c =
     let cells = g.S.Source.cells c.args.source.now in
     let counts = (program_ranges cells (g.S.Source.formed c.args.source.now)).counts_in in
-    let guards = guards_length cells c.args.step (held c.clear.new.self) (held c.push-guards.new.table) c.clear.ensures c.push-guards.ensures in
-    let propositions = length-append (held c.push-guards.new.table) (admission.edge_rows cells c.args.edge c.number-place.result) in
-    (c.requires.0, (omega (arith, guards, propositions, ap length c.push-edge-rows.ensures, length_edge_rows cells c.args.edge c.number-place.result, counts.guards_high, counts.propositions_high), c.requires.1))
+    let guards = guards_length cells c.args.step (held c.clear.new.self) (held c.push_guards.new.table) c.clear.ensures c.push_guards.ensures in
+    let propositions = length-append (held c.push_guards.new.table) (admission.edge_rows cells c.args.edge c.number-place.result) in
+    record { inside = c.requires.inside; ready = (omega (arith, guards, propositions, ap length c.push_edge_rows.ensures, length_edge_rows cells c.args.edge c.number-place.result, counts.guards_high, counts.propositions_high), c.requires.begins) }
 
 pub returns : goal.returns
 returns g c =
     let cells = g.S.Source.cells c.args.source.now in
-    let place = c.number-place.ensures.0 ∙ ap (view.number cells) (c.step_at.ensures.0 ∙ ap (λ h. view.step_at h c.args.step) c.requires.0.0) in
+    let place = c.number-place.ensures.0 ∙ ap (view.number cells) (c.step_at.ensures.0 ∙ ap (λ h. view.step_at h c.args.step) c.requires.inside.0) in
     let guards = admission.guard_rows cells c.args.step in
     let last = admission.move_conclusions cells g.K.RankKind.kind c.args.mode c.args.step c.args.edge in
-    c.push-conclusions.ensures
+    c.push_conclusions.ensures
     ∙ ap (λ rows. rows ++ last)
-    (c.push-edge-rows.ensures ∙ ap₂ (λ rows p. rows ++ admission.edge_rows cells c.args.edge p) (c.push-guards.ensures ∙ ap (λ rows. rows ++ guards) c.clear.ensures) place)
+    (c.push_edge_rows.ensures ∙ ap₂ (λ rows p. rows ++ admission.edge_rows cells c.args.edge p) (c.push_guards.ensures ∙ ap (λ rows. rows ++ guards) c.clear.ensures) place)
     ∙ append_assoc guards (admission.edge_rows cells c.args.edge (view.step_from cells c.args.step)) last

@@ -6,5 +6,5 @@ pub returns : goal.returns
 returns c = (
   (cc),
   at _ _ _ 2691 192 153 c.start_line_at.ensures.1 c.requires
-      (at _ _ _ 1 8 19 (omega arith) c.conclusions-of.ensures.1 (omega arith)),
+      (at _ _ _ 1 8 19 (omega arith) c.conclusions_of.ensures.1 (omega arith)),
 )

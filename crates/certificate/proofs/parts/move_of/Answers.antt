@@ -5,8 +5,8 @@ use Rattle.dossier.proofs.CellRanges.{program_ranges}
 use Rattle.certificate.proofs.Places.{move_below, step_below, edge_below}
 use Rattle.certificate.proofs.parts.move_of.Goals as goal
 
-pub move-at-requires : goal.move-at-requires
-move-at-requires g c =
+pub move_at-requires : goal.move_at-requires
+move_at-requires g c =
     let cells = g.S.Source.cells c.args.source.now in
     let below : c.args.index < admission.moves cells = omega (arith, ap (λ h. h.steps * h.edges) c.head-head.ensures) in
     omega (arith, move_below cells (program_ranges cells (g.S.Source.formed c.args.source.now)) c.args.index below)

@@ -15,7 +15,7 @@ push-requires g c =
 pub loop-index-preserved : goal.loop-index-preserved
 loop-index-preserved g c =
     let cells = g.S.Source.cells c.args.source.now in
-    pushed (held c.args.table.now) (held c.loop-index.table) c.loop-index.index (admission.edge_row cells c.args.edge c.args.place) c.loop-index.invariant _ _ c.push.ensures c.edge-row.ensures
+    pushed (held c.args.table.now) (held c.loop-index.table) c.loop-index.index (admission.edge_row cells c.args.edge c.args.place) c.loop-index.invariant _ _ c.push.ensures c.edge_row.ensures
 
 pub returns : goal.returns
 returns g c =

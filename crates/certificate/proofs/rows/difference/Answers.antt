@@ -7,8 +7,8 @@ use Rattle.certificate.proofs.Fill.{filled_more}
 use Rattle.certificate.proofs.Differences.{difference_fits, less_fits, all_columns, set_constant}
 use Rattle.certificate.proofs.rows.difference.Goals as goal
 
-pub overflow-sub-result : goal.overflow-sub-result
-overflow-sub-result c =
+pub overflow_sub-result : goal.overflow_sub-result
+overflow_sub-result c =
     let a : SFits w64 (get_or c.args.old.now c.loop-j.j (pos 0)) = search rules in
     let b : SFits w64 (get_or c.args.new.now c.loop-j.j (pos 0)) = search rules in
     simp to_z-of_z (difference_fits _ _ (c.requires.0 c.loop-j.j) (c.requires.1 c.loop-j.j))
@@ -23,8 +23,8 @@ loop-j-preserved c =
       filled_more c.loop-j.result c.loop-j.j (rows.difference (row_of c.args.old.now) (row_of c.args.new.now)) _ inside (simp to_z-of_z) c.loop-j.invariant.1,
     )
 
-pub overflow-sub-result-2 : goal.overflow-sub-result-2
-overflow-sub-result-2 c =
+pub overflow_sub-result-2 : goal.overflow_sub-result-2
+overflow_sub-result-2 c =
     let columns = all_columns c.loop-j.result c.args.old.now c.args.new.now c.loop-j.j (omega arith) (omega arith) (omega arith) c.loop-j.invariant.1 in
     let f : SFits w64 (get_or c.loop-j.result 0 (pos 0)) = search rules in
     let small : to_z w64 c.args.less ≡ pos c.args.less = to_z_pos w64 c.args.less (omega arith) in

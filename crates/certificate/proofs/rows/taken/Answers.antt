@@ -7,10 +7,10 @@ use Rattle.certificate.proofs.rows.taken.Goals as goal
 
 pub loop-j-preserved : goal.loop-j-preserved
 loop-j-preserved c =
-    let f : SFits w64 c.taken-column.result = search rules in
+    let f : SFits w64 c.taken_column.result = search rules in
     let inside : c.loop-j.j < length c.loop-j.result = omega arith in (
       length-set _ _ _ ∙ c.loop-j.invariant.0,
-      filled_more c.loop-j.result c.loop-j.j (rows.taken c.args.variables (row_of c.args.row.now) (λ v. row_of (get_or c.args.updates.now v []))) _ inside (to_z-of_z w64 c.taken-column.result f ∙ c.taken-column.ensures) c.loop-j.invariant.1,
+      filled_more c.loop-j.result c.loop-j.j (rows.taken c.args.variables (row_of c.args.row.now) (λ v. row_of (get_or c.args.updates.now v []))) _ inside (to_z-of_z w64 c.taken_column.result f ∙ c.taken_column.ensures) c.loop-j.invariant.1,
     )
 
 pub returns : goal.returns

@@ -20,8 +20,8 @@ bounded c =
 fits : (c : goal.After-product-term) → SFits w64 (c.loop-v.sum +ℤ c.product-term.result)
 fits c = fits_64 _ (within_more _ _ _ (omega (arith, c.requires.0)) (bounded c))
 
-pub overflow-add-sum : goal.overflow-add-sum
-overflow-add-sum c =
+pub overflow_add-sum : goal.overflow_add-sum
+overflow_add-sum c =
     let t : SFits w64 c.product-term.result = search rules in
     simp (c.loop-v.sum-is, to_z-of_z) (fits c)
 

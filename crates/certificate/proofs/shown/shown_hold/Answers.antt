@@ -17,32 +17,32 @@ use Rattle.certificate.proofs.Tables.{held_length}
 use Rattle.certificate.proofs.WideRows.{shown_short}
 use Rattle.certificate.proofs.shown.shown_hold.Goals as goal
 
-pub push-start-point-requires : goal.push-start-point-requires
-push-start-point-requires g c =
+pub push_start_point-requires : goal.push_start_point-requires
+push_start_point-requires g c =
     let cells = g.S.Source.cells c.args.source.now in
     (c.requires, omega (arith, ap length c.start_hypotheses.ensures, length_each (view.head cells).start_rows (view.start_row cells), (program_ranges cells (g.S.Source.formed c.args.source.now)).counts_in.start_rows_high))
 
 pub row-requires : goal.row-requires
-row-requires g c = omega (arith, held_length c.push-start-point.new.table)
+row-requires g c = omega (arith, held_length c.push_start_point.new.table)
 
 -- a value as a row
 constant_wide : (z : ℤ) → Within 2147483648 z → RowWithin wide (constant_row z)
 constant_wide z h zero = within_more 2147483648 17179869184 z (omega arith) h
 constant_wide z h (suc j) = zero_row_within 17179869184 (suc j)
 
-pub taken-column-requires : goal.taken-column-requires
-taken-column-requires g c =
+pub taken_column-requires : goal.taken_column-requires
+taken_column-requires g c =
     let cells = g.S.Source.cells c.args.source.now in
-    let rows = c.push-start-point.ensures ∙ ap (λ rows. rows ++ admission.start_conclusions cells) c.start_hypotheses.ensures in
+    let rows = c.push_start_point.ensures ∙ ap (λ rows. rows ++ admission.start_conclusions cells) c.start_hypotheses.ensures in
     let formed = g.S.Source.formed c.args.source.now in
-    let inside : c.loop-row.row < length (admission.shown_rows cells) = omega (arith, ap length rows, held_length c.push-start-point.new.table) in
+    let inside : c.loop-row.row < length (admission.shown_rows cells) = omega (arith, ap length rows, held_length c.push_start_point.new.table) in
     let variables : c.args.head.now.variables ≡ (view.head cells).variables = ap (λ h. h.variables) c.requires in (
       c.args.head.now.program.0,
       (
         omega arith,
         (
           subst (RowWithin short) (sym (c.row.ensures ∙ ap (λ xs. get_or xs c.loop-row.row zero_row) rows)) (shown_short cells (program_ranges cells formed) (start_below cells formed) c.loop-row.row inside),
-          λ v l. subst (RowWithin wide) (sym (c.shown-values-values.ensures.0 v (omega arith))) (constant_wide (view.shown cells v) (c.shown-values-values.ensures.1 v (omega arith))),
+          λ v l. subst (RowWithin wide) (sym (c.shown_values-values.ensures.0 v (omega arith))) (constant_wide (view.shown cells v) (c.shown_values-values.ensures.1 v (omega arith))),
         ),
       ),
     )
@@ -68,28 +68,28 @@ sign_yes v w e h f = ap (le_z (pos 0)) (sym e) ∙ positive v (sym (ap (λ z. lt
     positive : (v : ℤ) → lt_z v (pos 0) ≡ false → le_z (pos 0) v ≡ true
     positive v h = grind (arith, ints)
 
-pub returns-then-taken-column-lt0 : goal.returns-then-taken-column-lt0
-returns-then-taken-column-lt0 g c =
+pub returns-then-taken_column-lt0 : goal.returns-then-taken_column-lt0
+returns-then-taken_column-lt0 g c =
     let cells = g.S.Source.cells c.args.source.now in
-    let rows = c.push-start-point.ensures ∙ ap (λ rows. rows ++ admission.start_conclusions cells) c.start_hypotheses.ensures in
-    let inside : c.loop-row.row < length (admission.shown_rows cells) = omega (arith, ap length rows, held_length c.push-start-point.new.table) in
+    let rows = c.push_start_point.ensures ∙ ap (λ rows. rows ++ admission.start_conclusions cells) c.start_hypotheses.ensures in
+    let inside : c.loop-row.row < length (admission.shown_rows cells) = omega (arith, ap length rows, held_length c.push_start_point.new.table) in
     let r = get_or (admission.shown_rows cells) c.loop-row.row zero_row in
-    let v = row_value cells c.shown-values-values.result c.args.head.now.variables _ r c.taken-column.result (ap (λ h. h.variables) c.requires) c.shown-values-values.ensures.0 (c.row.ensures ∙ ap (λ xs. get_or xs c.loop-row.row zero_row) rows) c.taken-column.ensures in
-    let fits : SFits w64 c.taken-column.result = search rules in
-    sym (ap outcome (fails (admission.row_trial cells) zero_row (admission.shown_rows cells) c.loop-row.row inside (sign_no _ _ v c.if-taken-column-lt0.true fits) c.loop-row.invariant))
+    let v = row_value cells c.shown_values-values.result c.args.head.now.variables _ r c.taken_column.result (ap (λ h. h.variables) c.requires) c.shown_values-values.ensures.0 (c.row.ensures ∙ ap (λ xs. get_or xs c.loop-row.row zero_row) rows) c.taken_column.ensures in
+    let fits : SFits w64 c.taken_column.result = search rules in
+    sym (ap outcome (fails (admission.row_trial cells) zero_row (admission.shown_rows cells) c.loop-row.row inside (sign_no _ _ v c.if-taken_column-lt0.true fits) c.loop-row.invariant))
 
 pub loop-row-preserved : goal.loop-row-preserved
 loop-row-preserved g c =
     let cells = g.S.Source.cells c.args.source.now in
-    let rows = c.push-start-point.ensures ∙ ap (λ rows. rows ++ admission.start_conclusions cells) c.start_hypotheses.ensures in
-    let inside : c.loop-row.row < length (admission.shown_rows cells) = omega (arith, ap length rows, held_length c.push-start-point.new.table) in
+    let rows = c.push_start_point.ensures ∙ ap (λ rows. rows ++ admission.start_conclusions cells) c.start_hypotheses.ensures in
+    let inside : c.loop-row.row < length (admission.shown_rows cells) = omega (arith, ap length rows, held_length c.push_start_point.new.table) in
     let r = get_or (admission.shown_rows cells) c.loop-row.row zero_row in
-    let v = row_value cells c.shown-values-values.result c.args.head.now.variables _ r c.taken-column.result (ap (λ h. h.variables) c.requires) c.shown-values-values.ensures.0 (c.row.ensures ∙ ap (λ xs. get_or xs c.loop-row.row zero_row) rows) c.taken-column.ensures in
-    let fits : SFits w64 c.taken-column.result = search rules in
-    more (admission.row_trial cells) zero_row (admission.shown_rows cells) c.loop-row.row inside (sign_yes _ _ v c.if-taken-column-lt0.false fits) c.loop-row.invariant
+    let v = row_value cells c.shown_values-values.result c.args.head.now.variables _ r c.taken_column.result (ap (λ h. h.variables) c.requires) c.shown_values-values.ensures.0 (c.row.ensures ∙ ap (λ xs. get_or xs c.loop-row.row zero_row) rows) c.taken_column.ensures in
+    let fits : SFits w64 c.taken_column.result = search rules in
+    more (admission.row_trial cells) zero_row (admission.shown_rows cells) c.loop-row.row inside (sign_yes _ _ v c.if-taken_column-lt0.false fits) c.loop-row.invariant
 
 pub returns : goal.returns
 returns g c =
     let cells = g.S.Source.cells c.args.source.now in
-    let rows = c.push-start-point.ensures ∙ ap (λ rows. rows ++ admission.start_conclusions cells) c.start_hypotheses.ensures in
-    sym (ap outcome (done (admission.row_trial cells) zero_row (admission.shown_rows cells) c.loop-row.row (omega (arith, ap length rows, held_length c.push-start-point.new.table)) c.loop-row.invariant))
+    let rows = c.push_start_point.ensures ∙ ap (λ rows. rows ++ admission.start_conclusions cells) c.start_hypotheses.ensures in
+    sym (ap outcome (done (admission.row_trial cells) zero_row (admission.shown_rows cells) c.loop-row.row (omega (arith, ap length rows, held_length c.push_start_point.new.table)) c.loop-row.invariant))

@@ -20,19 +20,19 @@ judge-requires g c =
     let cells = g.S.Source.cells c.args.source.now in
     let p = c.search.point in
     let below : p < view.points (view.head cells) = omega (arith, c.points-point-end.ensures.0 ∙ ap view.points c.requires.0) in
-    let assumed = c.push-point.ensures ∙ ap (λ rows. rows ++ admission.point_hypotheses cells p) c.clear.ensures in
-    let j = judgement (point_group cells (g.S.Source.formed c.args.source.now) g.K.RankKind.kind g.met.K.RankKind.lawful c.requires.1.1 c.requires.1.0 p below) c.push-point.new.table c.point_claims.new.table assumed c.point_claims.ensures c.loop-line.line c.loop-line-test.true
-    (c.point-line-at-at.ensures.0 ∙ ap (λ h. view.point_line_at h p c.loop-line.line) c.requires.0) c.row.ensures in
-    ((c.requires.0, (omega (arith, c.point-line-at-at.ensures.1), j.few)), (j.line, (j.assumed, j.shown)))
+    let assumed = c.push_point.ensures ∙ ap (λ rows. rows ++ admission.point_hypotheses cells p) c.clear.ensures in
+    let j = judgement (point_group cells (g.S.Source.formed c.args.source.now) g.K.RankKind.kind g.met.K.RankKind.lawful c.requires.1.1 c.requires.1.0 p below) c.push_point.new.table c.point_claims.new.table assumed c.point_claims.ensures c.loop-line.line c.loop-line-test.true
+    (c.point_line_at-at.ensures.0 ∙ ap (λ h. view.point_line_at h p c.loop-line.line) c.requires.0) c.row.ensures in
+    record { inside = (c.requires.0, (omega (arith, c.point_line_at-at.ensures.1), j.few)); line = (j.line, (j.assumed, j.shown)) }
 
 pub loop-line-preserved : goal.loop-line-preserved
 loop-line-preserved g c =
     let cells = g.S.Source.cells c.args.source.now in
     let p = c.search.point in
     let below : p < view.points (view.head cells) = omega (arith, c.points-point-end.ensures.0 ∙ ap view.points c.requires.0) in
-    let assumed = c.push-point.ensures ∙ ap (λ rows. rows ++ admission.point_hypotheses cells p) c.clear.ensures in
-    let j = judgement (point_group cells (g.S.Source.formed c.args.source.now) g.K.RankKind.kind g.met.K.RankKind.lawful c.requires.1.1 c.requires.1.0 p below) c.push-point.new.table c.point_claims.new.table assumed c.point_claims.ensures c.loop-line.line c.loop-line-test.true
-    (c.point-line-at-at.ensures.0 ∙ ap (λ h. view.point_line_at h p c.loop-line.line) c.requires.0) c.row.ensures in
+    let assumed = c.push_point.ensures ∙ ap (λ rows. rows ++ admission.point_hypotheses cells p) c.clear.ensures in
+    let j = judgement (point_group cells (g.S.Source.formed c.args.source.now) g.K.RankKind.kind g.met.K.RankKind.lawful c.requires.1.1 c.requires.1.0 p below) c.push_point.new.table c.point_claims.new.table assumed c.point_claims.ensures c.loop-line.line c.loop-line-test.true
+    (c.point_line_at-at.ensures.0 ∙ ap (λ h. view.point_line_at h p c.loop-line.line) c.requires.0) c.row.ensures in
     (c.loop-line.invariant.0, more (admission.line_trial cells (view.point_line_at (view.head cells) p) (point_rows (view.head cells)) (admission.point_hypotheses cells p) (PointLine p)) zero_row (admission.point_claims cells g.K.RankKind.kind p) c.loop-line.line j.inside (sym (c.if-not-judge.ensures ∙ j.judged)) c.loop-line.invariant.1)
 
 pub search-preserved : goal.search-preserved
@@ -41,7 +41,7 @@ search-preserved g c =
     let p = c.search.point in
     let below : p < view.points (view.head cells) = omega (arith, c.points-point-end.ensures.0 ∙ ap view.points c.requires.0) in
     let kind = g.K.RankKind.kind in
-    let begins = none_fails (admission.begin_trials cells p) c.in-default.ensures in
+    let begins = none_fails (admission.begin_trials cells p) c.in_default.ensures in
     let none = done (admission.line_trial cells (view.point_line_at (view.head cells) p) (point_rows (view.head cells)) (admission.point_hypotheses cells p) (PointLine p)) zero_row (admission.point_claims cells g.K.RankKind.kind p) c.loop-line.line (omega (arith, held_length c.point_claims.new.table, ap length c.point_claims.ensures)) c.loop-line.invariant.1 in
     (c.loop-line.invariant.0, joined_more (view.points (view.head cells)) (admission.choice_trials cells kind) p below (sym (ap outcome (append_passes (admission.begin_trials cells p) (admission.point_trials cells kind p) begins ∙ none))) c.search.invariant.1)
 
@@ -59,10 +59,10 @@ returns-then-not-judge g c =
     let cells = g.S.Source.cells c.args.source.now in
     let p = c.search.point in
     let below : p < view.points (view.head cells) = omega (arith, c.points-point-end.ensures.0 ∙ ap view.points c.requires.0) in
-    let assumed = c.push-point.ensures ∙ ap (λ rows. rows ++ admission.point_hypotheses cells p) c.clear.ensures in
-    let j = judgement (point_group cells (g.S.Source.formed c.args.source.now) g.K.RankKind.kind g.met.K.RankKind.lawful c.requires.1.1 c.requires.1.0 p below) c.push-point.new.table c.point_claims.new.table assumed c.point_claims.ensures c.loop-line.line c.loop-line-test.true
-    (c.point-line-at-at.ensures.0 ∙ ap (λ h. view.point_line_at h p c.loop-line.line) c.requires.0) c.row.ensures in
+    let assumed = c.push_point.ensures ∙ ap (λ rows. rows ++ admission.point_hypotheses cells p) c.clear.ensures in
+    let j = judgement (point_group cells (g.S.Source.formed c.args.source.now) g.K.RankKind.kind g.met.K.RankKind.lawful c.requires.1.1 c.requires.1.0 p below) c.push_point.new.table c.point_claims.new.table assumed c.point_claims.ensures c.loop-line.line c.loop-line-test.true
+    (c.point_line_at-at.ensures.0 ∙ ap (λ h. view.point_line_at h p c.loop-line.line) c.requires.0) c.row.ensures in
     let kind = g.K.RankKind.kind in
-    let begins = none_fails (admission.begin_trials cells p) c.in-default.ensures in
+    let begins = none_fails (admission.begin_trials cells p) c.in_default.ensures in
     let fault = fails (admission.line_trial cells (view.point_line_at (view.head cells) p) (point_rows (view.head cells)) (admission.point_hypotheses cells p) (PointLine p)) zero_row (admission.point_claims cells g.K.RankKind.kind p) c.loop-line.line j.inside (sym (c.if-not-judge.ensures ∙ j.judged)) c.loop-line.invariant.1 in
     sym (joined_first (view.points (view.head cells)) (admission.choice_trials cells kind) p (PointLine p c.loop-line.line) below (append_passes (admission.begin_trials cells p) (admission.point_trials cells kind p) begins ∙ fault) c.search.invariant.1)

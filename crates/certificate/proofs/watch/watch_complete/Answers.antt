@@ -10,18 +10,18 @@ loop-state-init g c =
     let cells = g.S.Source.cells c.args.source.now in
     joined_begins (view.head cells).states (admission.state_trials cells)
 
-pub returns-in-err-state-complete : goal.returns-in-err-state-complete
-returns-in-err-state-complete g c =
+pub returns-in_err-state_complete : goal.returns-in_err-state_complete
+returns-in_err-state_complete g c =
     let cells = g.S.Source.cells c.args.source.now in
     let states : c.args.head.now.states ≡ (view.head cells).states = ap (λ h. h.states) c.requires in
-    let p = err_from_is_err_and c.from-residual.result c.from-residual.ensures.1 in
-    rw (p.1, p.2) (joined_fails (view.head cells).states (admission.state_trials cells) c.loop-state.state _ (omega arith) c.in-err-state-complete.ensures c.loop-state.invariant)
+    let p = err_from_is_err_and c.from_residual.result c.from_residual.ensures.1 in
+    rw (p.1, p.2) (joined_fails (view.head cells).states (admission.state_trials cells) c.loop-state.state _ (omega arith) c.in_err-state_complete.ensures c.loop-state.invariant)
 
 pub loop-state-preserved : goal.loop-state-preserved
 loop-state-preserved g c =
     let cells = g.S.Source.cells c.args.source.now in
     let states : c.args.head.now.states ≡ (view.head cells).states = ap (λ h. h.states) c.requires in
-    joined_more (view.head cells).states (admission.state_trials cells) c.loop-state.state (omega arith) c.in-ok-state-complete.ensures c.loop-state.invariant
+    joined_more (view.head cells).states (admission.state_trials cells) c.loop-state.state (omega arith) c.in_ok-state_complete.ensures c.loop-state.invariant
 
 pub returns : goal.returns
 returns g c =

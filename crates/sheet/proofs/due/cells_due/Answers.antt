@@ -11,19 +11,19 @@ counted gs i d n e h = at_drop_more all_groups_cells gs i d h ∙ ap (λ m. m + 
 pub loop-group-init : goal.loop-group-init
 loop-group-init c = (refl, omega arith)
 
-pub overflow-add-sum : goal.overflow-add-sum
-overflow-add-sum c = record { fits = omega arith }
+pub overflow_add-sum : goal.overflow_add-sum
+overflow_add-sum c = record { fits = omega arith }
 
 pub loop-group-preserved : goal.loop-group-preserved
 loop-group-preserved c =
     let eight : length c.groups-group-items.result ≡ 8 = ap length c.groups-group-items.ensures in
-    let more = counted c.groups-group-items.result c.loop-group.group_index _ c.group-cells-sum.result c.group-cells-sum.ensures.0 (omega arith) in
+    let more = counted c.groups-group-items.result c.loop-group.group-index _ c.group_cells-sum.result c.group_cells-sum.ensures.0 (omega arith) in
     (omega (arith, more), omega arith)
 
 pub returns : goal.returns
 unfolding cells_due
 returns c =
     let eight : length c.groups-group-items.result ≡ 8 = ap length c.groups-group-items.ensures in
-    let none = at_drop_all all_groups_cells c.groups-group-items.result c.loop-group.group_index (omega arith) in
+    let none = at_drop_all all_groups_cells c.groups-group-items.result c.loop-group.group-index (omega arith) in
     let all = ap all_groups_cells c.groups-group-items.ensures in
     omega (arith, none, all)

@@ -8,11 +8,11 @@ use Rattle.sheet.proofs.reading.all_digits.Goals as goal
 pub loop-b-init : goal.loop-b-init
 loop-b-init c = (omega arith, λ h. (lit< tt, λ more p. ap (λ n. digits n 0 (c.args.part.now ++ more) (ahead p 0)) (omega arith) ∙ ap (λ n. digits (length c.args.part.now) 0 (c.args.part.now ++ more) (record { line = p.line; byte = n })) (add-zero p.byte)))
 
-pub overflow-mul-value : goal.overflow-mul-value
-overflow-mul-value c = record { fits = omega (arith, seven_digits c.loop-b.b-index (omega arith), c.loop-b.invariant.0) }
+pub overflow_mul-value : goal.overflow_mul-value
+overflow_mul-value c = record { fits = omega (arith, seven_digits c.loop-b.b-index (omega arith), c.loop-b.invariant.0) }
 
-pub overflow-add-value : goal.overflow-add-value
-overflow-add-value c = record { fits = omega (arith, at_most_no (get_or c.args.part.now c.loop-b.b-index 0) c.nibble.result c.nibble.ensures, seven_digits c.loop-b.b-index (omega arith), c.loop-b.invariant.0) }
+pub overflow_add-value : goal.overflow_add-value
+overflow_add-value c = record { fits = omega (arith, at_most_no (get_or c.args.part.now c.loop-b.b-index 0) c.nibble.result c.nibble.ensures, seven_digits c.loop-b.b-index (omega arith), c.loop-b.invariant.0) }
 
 pub loop-b-preserved : goal.loop-b-preserved
 loop-b-preserved c = (

@@ -18,29 +18,29 @@ due : (h : Counts) (gs : List Group) → gs ≡ groups h → lines_due h ≡ all
 unfolding lines_due
 due h gs e = ap all_lines (sym e)
 
-pub returns-in-err-next : goal.returns-in-err-next
-returns-in-err-next g c =
-    let told = c.in-err-next.ensures in
+pub returns-in_err-next : goal.returns-in_err-next
+returns-in_err-next g c =
+    let told = c.in_err-next.ensures in
     let eight : length c.groups-group-items.result ≡ 8 = ap length c.groups-group-items.ensures in
-    let split = ap all_lines (drop_more c.groups-group-items.result c.loop-group.group_index _ (omega arith)) in
+    let split = ap all_lines (drop_more c.groups-group-items.result c.loop-group.group-index _ (omega arith)) in
     let stop = lines_stop (g.V.Fields.supply c.args.fields.now) put c.loop-group.invariant.0 _ _ split (c.loop-group.next, c.loop-group.cells) (g.V.Fields.place c.loop-group.fields) told.walked in
     record {
       same = told.same ∙ c.loop-group.invariant.0;
-      walked = stops (λ n. ((n, c.group-lines.new.cells), g.V.Fields.place c.group-lines.new.fields)) c.from-residual.result c.from-residual.ensures.1 (ap (λ l. walking.frames (g.V.Fields.supply c.args.fields.now) put l (c.args.at, c.args.cells.now) (g.V.Fields.place c.args.fields.now)) (due (counts_of c.args.head.now) c.groups-group-items.result c.groups-group-items.ensures) ∙ sym c.loop-group.invariant.1 ∙ stop);
+      walked = stops (λ n. ((n, c.group_lines.new.cells), g.V.Fields.place c.group_lines.new.fields)) c.from_residual.result c.from_residual.ensures.1 (ap (λ l. walking.frames (g.V.Fields.supply c.args.fields.now) put l (c.args.at, c.args.cells.now) (g.V.Fields.place c.args.fields.now)) (due (counts_of c.args.head.now) c.groups-group-items.result c.groups-group-items.ensures) ∙ sym c.loop-group.invariant.1 ∙ stop);
     }
 
 pub loop-group-preserved : goal.loop-group-preserved
 loop-group-preserved g c =
-    let told = c.in-ok-next.ensures in
+    let told = c.in_ok-next.ensures in
     let eight : length c.groups-group-items.result ≡ 8 = ap length c.groups-group-items.ensures in
-    let split = ap all_lines (drop_more c.groups-group-items.result c.loop-group.group_index _ (omega arith)) in
+    let split = ap all_lines (drop_more c.groups-group-items.result c.loop-group.group-index _ (omega arith)) in
     let more = lines_more (g.V.Fields.supply c.args.fields.now) put c.loop-group.invariant.0 _ _ split (c.loop-group.next, c.loop-group.cells) (g.V.Fields.place c.loop-group.fields) told.walked in
     (told.same ∙ c.loop-group.invariant.0, sym more ∙ c.loop-group.invariant.1)
 
 pub returns : goal.returns
 returns g c =
     let eight : length c.groups-group-items.result ≡ 8 = ap length c.groups-group-items.ensures in
-    let done : drop c.loop-group.group_index c.groups-group-items.result ≡ [] = drop_all c.loop-group.group_index c.groups-group-items.result (omega arith) in
+    let done : drop c.loop-group.group-index c.groups-group-items.result ≡ [] = drop_all c.loop-group.group-index c.groups-group-items.result (omega arith) in
     let u = g.V.Fields.supply c.args.fields.now in
     record {
       same = c.loop-group.invariant.0;

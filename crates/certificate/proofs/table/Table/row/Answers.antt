@@ -3,8 +3,8 @@ use mir.Facts.{Fits-below}
 use Rattle.certificate.proofs.Tables.{held_length, held_at}
 use Rattle.certificate.proofs.table.Table.row.Goals as goal
 
-pub offset-bounds-self-index : goal.offset-bounds-self-index
-offset-bounds-self-index c = Fits-below {n = 1120} tt (omega (arith, c.requires, held_length c.args.self.now, c.args.self.now.few))
+pub offset_bounds-self-index : goal.offset_bounds-self-index
+offset_bounds-self-index c = Fits-below {n = 1120} tt (omega (arith, c.requires, held_length c.args.self.now, c.args.self.now.few))
 
 pub bounds-self-index : goal.bounds-self-index
 bounds-self-index c = omega (arith, held_length c.args.self.now)

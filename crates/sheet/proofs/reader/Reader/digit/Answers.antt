@@ -15,7 +15,7 @@ returns-then-digit-lt16 c =
     let b = get_or s.text.now s.place.byte 0 in
     record {
       same = refl;
-      read = sym (digit_there s.text.now s.place b refl (omega arith) (sym (is_digit (nibble b) c.nibble_digit.result c.nibble_digit.ensures (omega arith))));
+      read = sym (digit_there s.text.now s.place b refl (omega arith) (sym (is_digit (nibble b) c.nibble-digit.result c.nibble-digit.ensures (omega arith))));
       behind = (omega arith, refl);
     }
 
@@ -25,7 +25,7 @@ returns-then-b-eq10 c =
     let b = get_or s.text.now s.place.byte 0 in
     record {
       same = refl;
-      read = sym (digit_there s.text.now s.place b refl (omega arith) (sym (no_digit_at b c.nibble_digit.result c.nibble_digit.ensures (omega arith))) ∙ ap Err (feed_there s.text.now s.place b c.if-b-eq10.true));
+      read = sym (digit_there s.text.now s.place b refl (omega arith) (sym (no_digit_at b c.nibble-digit.result c.nibble-digit.ensures (omega arith))) ∙ ap Err (feed_there s.text.now s.place b c.if-b-eq10.true));
       behind = tt;
     }
 
@@ -35,6 +35,6 @@ returns-else-b-eq10 c =
     let b = get_or s.text.now s.place.byte 0 in
     record {
       same = refl;
-      read = sym (digit_there s.text.now s.place b refl (omega arith) (sym (no_digit_at b c.nibble_digit.result c.nibble_digit.ensures (omega arith))) ∙ ap Err (other_there s.text.now s.place b c.if-b-eq10.false));
+      read = sym (digit_there s.text.now s.place b refl (omega arith) (sym (no_digit_at b c.nibble-digit.result c.nibble-digit.ensures (omega arith))) ∙ ap Err (other_there s.text.now s.place b c.if-b-eq10.false));
       behind = tt;
     }

@@ -3,27 +3,27 @@ use Rattle.std.proofs.lemmas.Result.{err_from_is_err_and}
 use Rattle.sheet.proofs.Bytes.{ahead_more, loop_more, loop_stop, shifted_small, seven_digits}
 use Rattle.sheet.proofs.reader.Reader.judged_digits.Goals as goal
 
-pub returns-in-err-digit : goal.returns-in-err-digit
-returns-in-err-digit c =
-    let told = c.in-err-digit.ensures in
-    let p = err_from_is_err_and c.from-residual.result c.from-residual.ensures.1 in
+pub returns-in_err-digit : goal.returns-in_err-digit
+returns-in_err-digit c =
+    let told = c.in_err-digit.ensures in
+    let p = err_from_is_err_and c.from_residual.result c.from_residual.ensures.1 in
     let s = c.loop.self in
-    let stop = loop_stop s.text.now s.place (c.args.count - c.loop.counter) (c.args.count - (c.loop.counter + 1)) c.loop.value (omega arith) c.in-err-digit.field-0.0 (sym told.read) in
+    let stop = loop_stop s.text.now s.place (c.args.count - c.loop.counter) (c.args.count - (c.loop.counter + 1)) c.loop.value (omega arith) c.in_err-digit.field-0.0 (sym told.read) in
     rw (p.1, p.2) (record { same = told.same ∙ c.loop.invariant.0; read = sym (sym c.loop.invariant.3 ∙ stop); behind = tt })
 
-pub overflow-mul-value : goal.overflow-mul-value
-overflow-mul-value c = record { fits = omega (arith, seven_digits c.loop.counter (omega arith), c.loop.invariant.1) }
+pub overflow_mul-value : goal.overflow_mul-value
+overflow_mul-value c = record { fits = omega (arith, seven_digits c.loop.counter (omega arith), c.loop.invariant.1) }
 
-pub overflow-add-value : goal.overflow-add-value
-overflow-add-value c = record { fits = omega (arith, c.in-ok-digit.ensures.behind.0, seven_digits c.loop.counter (omega arith), c.loop.invariant.1) }
+pub overflow_add-value : goal.overflow_add-value
+overflow_add-value c = record { fits = omega (arith, c.in_ok-digit.ensures.behind.0, seven_digits c.loop.counter (omega arith), c.loop.invariant.1) }
 
 pub loop-preserved : goal.loop-preserved
 loop-preserved c =
-    let told = c.in-ok-digit.ensures in
+    let told = c.in_ok-digit.ensures in
     let s = c.loop.self in
-    let more = loop_more s.text.now s.place (c.args.count - c.loop.counter) (c.args.count - (c.loop.counter + 1)) c.loop.value (omega arith) c.in-ok-digit.digit (sym told.read) c.digit.new.self.text.now c.digit.new.self.place (ap (λ t. t.now) told.same) told.behind.1 in (
+    let more = loop_more s.text.now s.place (c.args.count - c.loop.counter) (c.args.count - (c.loop.counter + 1)) c.loop.value (omega arith) c.in_ok-digit.digit (sym told.read) c.digit.new.self.text.now c.digit.new.self.place (ap (λ t. t.now) told.same) told.behind.1 in (
       told.same ∙ c.loop.invariant.0,
-      shifted_small c.loop.counter c.loop.value c.in-ok-digit.digit c.loop.invariant.1 told.behind.0,
+      shifted_small c.loop.counter c.loop.value c.in_ok-digit.digit c.loop.invariant.1 told.behind.0,
       ahead_more c.args.self.now.place c.loop.counter 1 c.loop.invariant.2 told.behind.1,
       sym more ∙ c.loop.invariant.3,
     )

@@ -8,19 +8,19 @@ use Rattle.sheet.proofs.walk.Fields.run.Goals as goal
 pub loop-init : goal.loop-init
 loop-init g c = (refl, ap (λ n. walking.run (g.Self.Fields.supply c.args.self.now) put c.args.digits c.args.range n (c.args.at, c.args.cells.now) (g.Self.Fields.place c.args.self.now)) (omega arith))
 
-pub returns-in-err-value : goal.returns-in-err-value
-returns-in-err-value g c =
-    let told = c.in-err-value.ensures in
+pub returns-in_err-value : goal.returns-in_err-value
+returns-in_err-value g c =
+    let told = c.in_err-value.ensures in
     let stop = run_stop (g.Self.Fields.supply c.args.self.now) put c.loop.invariant.0 c.args.digits c.args.range (c.args.count - c.loop.counter) (c.args.count - (c.loop.counter + 1)) (c.loop.next, c.loop.cells) (g.Self.Fields.place c.loop.self) (omega arith) told.found in
     record {
       same = told.same ∙ c.loop.invariant.0;
-      walked = stops (λ n. ((n, c.loop.cells), g.Self.Fields.place c.field.new.self)) c.from-residual.result c.from-residual.ensures.1 (sym c.loop.invariant.1 ∙ stop);
+      walked = stops (λ n. ((n, c.loop.cells), g.Self.Fields.place c.field.new.self)) c.from_residual.result c.from_residual.ensures.1 (sym c.loop.invariant.1 ∙ stop);
     }
 
 pub loop-preserved : goal.loop-preserved
 loop-preserved g c =
-    let told = c.in-ok-value.ensures in
-    let more = run_more (g.Self.Fields.supply c.args.self.now) put c.loop.invariant.0 c.args.digits c.args.range (c.args.count - c.loop.counter) (c.args.count - (c.loop.counter + 1)) (c.loop.next, c.loop.cells) (c.store-next.result, c.store-next.new.cells) (g.Self.Fields.place c.loop.self) (omega arith) told.found (c.store-next.ensures ∙ ap (put (c.loop.next, c.loop.cells)) (to_z-of_z w32 c.in-ok-value.value (search rules))) in
+    let told = c.in_ok-value.ensures in
+    let more = run_more (g.Self.Fields.supply c.args.self.now) put c.loop.invariant.0 c.args.digits c.args.range (c.args.count - c.loop.counter) (c.args.count - (c.loop.counter + 1)) (c.loop.next, c.loop.cells) (c.store-next.result, c.store-next.new.cells) (g.Self.Fields.place c.loop.self) (omega arith) told.found (c.store-next.ensures ∙ ap (put (c.loop.next, c.loop.cells)) (to_z-of_z w32 c.in_ok-value.value (search rules))) in
     (told.same ∙ c.loop.invariant.0, sym more ∙ c.loop.invariant.1)
 
 pub returns : goal.returns
