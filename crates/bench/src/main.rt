@@ -1,5 +1,7 @@
 // Times reading and opening of the longest sheet, and admission of the largest dossiers. Counts go to standard output, times to
 // standard error.
+#![tactic(auto)]
+
 mod admission;
 mod longest;
 mod numbers;

@@ -1,4 +1,6 @@
 // Compares what reading and admission answer with two tables of cases and prints the cases that differ.
+#![tactic(auto)]
+
 mod admission_case;
 mod due;
 mod edit;

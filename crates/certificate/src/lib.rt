@@ -1,4 +1,6 @@
 // The admission of dossiers of any source at any rank kind.
+#![tactic(auto)]
+
 pub mod admit;
 pub mod admitted;
 mod build;

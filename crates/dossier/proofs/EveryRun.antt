@@ -5,7 +5,7 @@ use Rattle.std.proofs.lemmas.Nat.{div-mul-add, mod-mul-add}
 use Rattle.layout.specs.Cells.{well_formed}
 use Rattle.layout.specs.Layout.{point_rows, conclusions}
 use Rattle.dossier.specs.declared.fault.AdmitFault.TheVariants.{StartLine, MoveLine}
-use Rattle.dossier.specs.Rows.{Row, holds, each}
+use Rattle.dossier.specs.Rows.{Row, holds}
 use Rattle.dossier.specs.Dossier.{head, start_row, step_from, guard, start_point, start_line_at, point_of, move_mode, move_line_at, move_hypotheses}
 use Rattle.dossier.specs.Kinds.{Kind, Lawful}
 use Rattle.dossier.specs.Runs.{Situation, Open, Can, Move, Start, Reached, begins, goes_on, Endless, EveryRunLaw, letter, point}

@@ -1,5 +1,5 @@
 -- The number of proof lines is that of the tests that are proof lines.
-use Rattle.std.proofs.Common.{◌≡◌, ℕ, zero, suc, ◌+◌, ◌*◌, ◌^◌, Bool, true, false, cond, List, [], ◌∷◌, ◌++◌, length, ℤ, sym, refl, ap, ◌∙◌, ap₂, suc-mul, zero-mul, arith}
+use Rattle.std.proofs.Common.{◌≡◌, ℕ, zero, suc, ◌+◌, ◌*◌, ◌^◌, true, false, cond, List, [], ◌∷◌, ◌++◌, length, ℤ, sym, refl, ap, ◌∙◌, ap₂, suc-mul, zero-mul, arith}
 use Rattle.std.specs.List.{flat_map}
 use Rattle.layout.specs.Layout.{point_rows, conclusions}
 use Rattle.dossier.specs.declared.fault.AdmitFault.TheVariants.{NoEdge}

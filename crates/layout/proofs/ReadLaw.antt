@@ -1,12 +1,12 @@
 -- A text is read exactly when it is the text of a well_formed list, and so a list has one text and a text one list.
-use Rattle.std.proofs.Common.{◌≡◌, ℕ, ◌+◌, ◌<◌, ◌≤◌, Bool, true, false, cond, ltb, leb, List, [], ◌++◌, length, get_or, take, drop, ℤ, pos, Ok, Err, Result, sym, refl, ap, ◌∙◌, subst, append-nil, arith, length-drop, take-append-drop}
-use Rattle.std.proofs.lemmas.List.{take_at, drop_at, take_all, take-take, drop_all, get_or-take}
+use Rattle.std.proofs.Common.{◌≡◌, ℕ, ◌+◌, ◌≤◌, Bool, true, false, cond, ltb, leb, List, [], ◌++◌, length, take, drop, ℤ, Ok, Err, Result, sym, refl, ap, ◌∙◌, subst, append-nil, arith, length-drop, take-append-drop}
+use Rattle.std.proofs.lemmas.List.{take_at, drop_at, take_all, take-take, drop_all}
 use Rattle.std.proofs.lemmas.Bool.{ltb-false, le-ltb, leb-true, le-leb}
 use Rattle.layout.specs.declared.fault.Place.{Place}
 use Rattle.layout.specs.declared.fault.LineFault.{LineFault}
 use Rattle.layout.specs.declared.fault.ReadFault.{ReadFault}
 use Rattle.layout.specs.declared.fault.ReadFault.TheVariants.{Extra, TooFewCells}
-use Rattle.layout.specs.Layout.{Counts, counts, count_of, head_fields, unused, lines_due}
+use Rattle.layout.specs.Layout.{Counts, counts, head_fields, unused, lines_due}
 use Rattle.layout.specs.Cells.{both, line_holds, lines_hold, head_width, well_formed, cells_due}
 use Rattle.layout.specs.Text.{head_kind, line_text, lines_text, sheet_text}
 use Rattle.layout.specs.Walk.{next, line, frames}

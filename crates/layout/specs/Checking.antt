@@ -1,5 +1,5 @@
 -- A list of cells as a supply of fields: kinds and line ends are not written there. Going through it is the check of a list.
-use Rattle.std.specs.Prelude.{ℕ, Bool, true, false, cond, List, [], ◌∷◌, length, drop, ℤ, Ok, Err, Result, ◌==◌}
+use Rattle.std.specs.Prelude.{Bool, false, cond, List, [], ◌∷◌, length, drop, ℤ, Ok, Err, Result, ◌==◌}
 use Rattle.layout.specs.declared.fault.Place.{Place}
 use Rattle.layout.specs.declared.fault.OpenFault.{OpenFault}
 use Rattle.layout.specs.declared.fault.OpenFault.TheVariants.{NotWellFormed}

@@ -1,7 +1,6 @@
 -- The layout of a sheet as data: from the counts of a head, the lines that are due and their fields.
-use Rattle.std.specs.Prelude.{ℕ, zero, suc, ◌+◌, ◌-◌, ◌*◌, ◌^◌, ◌<◌, ◌≤◌, Bool, true, false, cond, List, [], ◌∷◌, ◌++◌, take, replicate, ℤ, pos, negsuc, ◌==◌, slice_index_or}
+use Rattle.std.specs.Prelude.{ℕ, zero, suc, ◌+◌, ◌-◌, ◌*◌, ◌^◌, ◌<◌, ◌≤◌, Bool, false, cond, List, [], ◌∷◌, ◌++◌, take, replicate, ℤ, pos, negsuc, ◌==◌, slice_index_or}
 use Rattle.std.specs.List.{flat_map}
-use Rattle.layout.specs.declared.field.Digits.{Digits}
 use Rattle.layout.specs.declared.field.Digits.TheVariants.{Two, Four, Eight, Value}
 use Rattle.layout.specs.declared.field.Range.{Range}
 use Rattle.layout.specs.declared.field.Range.TheVariants.{Between, Apart}

@@ -1,5 +1,5 @@
 -- The text of a list of cells.
-use Rattle.std.specs.Prelude.{ℕ, zero, suc, ◌+◌, ◌-◌, ◌/◌, ◌%◌, ◌^◌, Bool, true, false, cond, List, [], ◌∷◌, ◌++◌, length, take, drop, ℤ, pos, negsuc, nat_lt}
+use Rattle.std.specs.Prelude.{ℕ, zero, suc, ◌+◌, ◌-◌, ◌/◌, ◌%◌, ◌^◌, cond, List, [], ◌∷◌, ◌++◌, length, take, drop, ℤ, pos, negsuc, nat_lt}
 use Rattle.layout.specs.declared.field.Digits.{Digits}
 use Rattle.layout.specs.declared.field.Digits.TheVariants.{Two, Four, Eight, Value}
 use Rattle.layout.specs.declared.field.Field.{Field}

@@ -1,5 +1,5 @@
 -- Going through the lines of a sheet, field by field, up to the first fault. What supplies the fields, a text or a list of cells, and what becomes of the values are left open.
-use Rattle.std.specs.Prelude.{◌≡◌, ℕ, zero, suc, Bool, true, false, T, List, [], ◌∷◌, ◌++◌, ℤ, Ok, Err, Result}
+use Rattle.std.specs.Prelude.{◌≡◌, ℕ, zero, suc, T, List, [], ◌∷◌, ◌++◌, ℤ, Ok, Err, Result}
 use Rattle.layout.specs.declared.fault.Place.{Place}
 use Rattle.layout.specs.declared.field.Digits.{Digits}
 use Rattle.layout.specs.declared.field.Range.{Range}

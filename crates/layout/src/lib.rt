@@ -1,4 +1,6 @@
 // What a sheet is made of: its fields, frames, groups and head, the faults of a reader, and in specs/ what they mean.
+#![tactic(auto)]
+
 pub mod fault;
 pub mod field;
 pub mod frame;

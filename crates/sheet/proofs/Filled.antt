@@ -2,7 +2,6 @@
 use Rattle.std.proofs.Common.{◌≡◌, ℕ, ◌+◌, ◌<◌, ◌≤◌, cond, List, [], ◌∷◌, ◌++◌, length, drop, set, ℤ, Ok, Err, Result, sym, refl, ap, ◌∙◌, subst, append_assoc, add-zero, zero-add, arith, length-append, lt-ltb}
 use Rattle.std.proofs.lemmas.List.{set_at}
 use Rattle.layout.specs.declared.fault.ReadFault.{ReadFault}
-use Rattle.layout.specs.Laws.{TextOf}
 use Rattle.layout.specs.Reading.{append, read_with, read_text}
 use Rattle.layout.proofs.Count.{all_counted}
 use Rattle.layout.proofs.Natural.{seen_whole, read_seen}

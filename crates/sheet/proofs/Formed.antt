@@ -1,5 +1,5 @@
 -- The check of a list, by the way it went.
-use Rattle.std.proofs.Common.{◌≡◌, ℕ, Bool, true, false, eqb, List, length, ℤ, Ok, Err, Result, sym, refl, ap, ◌∙◌, eq-eqb, ne_eqb}
+use Rattle.std.proofs.Common.{◌≡◌, List, length, ℤ, Ok, Err, Result, sym, refl, ap, ◌∙◌, eq-eqb, ne_eqb}
 use Rattle.layout.specs.declared.fault.Place.{Place}
 use Rattle.layout.specs.declared.fault.OpenFault.{OpenFault}
 use Rattle.layout.specs.declared.fault.OpenFault.TheVariants.{NotWellFormed}

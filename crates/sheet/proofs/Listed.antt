@@ -1,5 +1,5 @@
 -- A cell at a place of a list.
-use Rattle.std.proofs.Common.{◌≡◌, ◌<◌, ◌≤◌, Bool, cond, List, [], length, get_or, drop, ℤ, pos, Ok, Err, ap, ◌∙◌}
+use Rattle.std.proofs.Common.{◌≡◌, ◌<◌, ◌≤◌, Bool, cond, List, length, get_or, drop, ℤ, pos, Ok, Err, ap, ◌∙◌}
 use Rattle.std.proofs.lemmas.List.{at_drop_more, at_drop_all}
 use Rattle.layout.specs.declared.fault.Place.{Place}
 use Rattle.layout.specs.declared.fault.OpenFault.TheVariants.{NotWellFormed}

@@ -1,5 +1,5 @@
 -- Several cells at once: their test, where they go, and a run of them.
-use Rattle.std.proofs.Common.{◌≡◌, ℕ, zero, suc, ◌+◌, ◌-◌, ◌<◌, ◌≤◌, Bool, true, false, cond, ◌&&◌, List, [], ◌∷◌, length, get_or, take, drop, set, ℤ, pos, Ok, Err, Result, sym, refl, ap, ◌∙◌, ap₂, add-zero, arith, length-drop, w32, SFits}
+use Rattle.std.proofs.Common.{◌≡◌, ℕ, zero, suc, ◌+◌, ◌-◌, ◌<◌, ◌≤◌, Bool, true, false, cond, ◌&&◌, List, [], ◌∷◌, length, get_or, take, drop, ℤ, pos, Ok, Err, Result, sym, refl, ap, ◌∙◌, ap₂, add-zero, arith, length-drop, w32, SFits}
 use lib.Signed.{le_z, mag}
 use Rattle.std.proofs.lemmas.List.{at_drop_more, at_drop_all, drop-drop, length-take-le, set_past}
 use Rattle.std.proofs.lemmas.Int.{ints}

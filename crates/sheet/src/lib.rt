@@ -1,4 +1,6 @@
 // Reads the text of a sheet into cells, and opens a list of cells as a sheet.
+#![tactic(auto)]
+
 mod checker;
 mod checking;
 mod due;

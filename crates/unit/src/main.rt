@@ -1,4 +1,6 @@
 // The console: obeys a script of commands, one to a line, and answers each by one line.
+#![tactic(auto)]
+
 mod answer;
 mod call;
 mod claim;

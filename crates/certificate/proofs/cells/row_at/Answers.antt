@@ -1,4 +1,4 @@
-use Rattle.std.proofs.Common.{◌≡◌, ℕ, ◌+◌, cond, ltb, leb, get_or, pos, sym, ap, ◌∙◌, arith, length-set, w32, w64, SFits, to_z, of_z, rules}
+use Rattle.std.proofs.Common.{◌≡◌, ℕ, ◌+◌, cond, ltb, leb, get_or, pos, ap, ◌∙◌, arith, length-set, w32, w64, SFits, to_z, of_z, rules}
 use Rattle.std.proofs.lemmas.Int.{to_z-of_z}
 use Rattle.dossier.specs.Dossier as view
 use Rattle.certificate.proofs.Fill.{filled_more, up_to}

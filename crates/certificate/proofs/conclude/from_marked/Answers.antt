@@ -1,4 +1,4 @@
-use Rattle.std.proofs.Common.{◌≡◌, ap, ◌∙◌, arith}
+use Rattle.std.proofs.Common.{ap, ◌∙◌, arith}
 use Rattle.dossier.specs.Dossier as view
 use Rattle.dossier.proofs.CellRanges.{program_ranges}
 use Rattle.certificate.proofs.conclude.from_marked.Goals as goal

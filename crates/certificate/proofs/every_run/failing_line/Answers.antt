@@ -1,4 +1,4 @@
-use Rattle.std.proofs.Common.{◌≡◌, ◌*◌, ◌/◌, ◌%◌, ◌<◌, length, sym, ap, ◌∙◌, subst, arith}
+use Rattle.std.proofs.Common.{◌*◌, ◌/◌, ◌%◌, ◌<◌, length, sym, ap, ◌∙◌, subst, arith}
 use Rattle.dossier.specs.Rows.{zero_row}
 use Rattle.dossier.specs.declared.fault.AdmitFault.TheVariants.{MoveLine}
 use Rattle.dossier.specs.Admission as admission

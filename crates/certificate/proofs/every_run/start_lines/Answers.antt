@@ -1,4 +1,4 @@
-use Rattle.std.proofs.Common.{◌≡◌, ◌++◌, length, sym, ap, ◌∙◌, arith}
+use Rattle.std.proofs.Common.{◌++◌, length, sym, ap, ◌∙◌, arith}
 use Rattle.dossier.specs.Rows.{zero_row}
 use Rattle.dossier.specs.declared.fault.AdmitFault.TheVariants.{StartLine}
 use Rattle.dossier.specs.Admission as admission

@@ -1,9 +1,9 @@
-use Rattle.std.proofs.Common.{◌≡◌, ℕ, ◌<◌, List, ◌++◌, sym, refl, ap, ◌∙◌, subst, arith}
+use Rattle.std.proofs.Common.{◌≡◌, ℕ, List, sym, refl, ap, ◌∙◌, subst, arith}
 use Rattle.dossier.specs.declared.fall.Fall.{Fall}
 use Rattle.dossier.specs.Kinds.{Inside, fall_row}
 use Rattle.dossier.specs.Rows.{Row, each}
 use Rattle.certificate.specs.Arrays.{held}
-use Rattle.certificate.specs.Falls.{rows_from, There, Ready}
+use Rattle.certificate.specs.Falls.{rows_from, There}
 use Rattle.certificate.proofs.Eaches.{pushed, filled_length}
 use Rattle.certificate.proofs.FallRows.{rows_from_append, there_append, ready, fall_row_same}
 use Rattle.certificate.proofs.falls.push_falls.Given as given

@@ -1,16 +1,15 @@
-use Rattle.std.proofs.Common.{◌≡◌, ℕ, ◌+◌, ◌-◌, ◌≤◌, List, length, take, ℤ, pos, ◌≤ℤ◌, sym, refl, ap, ◌∙◌, subst, arith, length-set, w32, w64, SFits, to_z, of_z, rules}
+use Rattle.std.proofs.Common.{◌≡◌, ℕ, ◌+◌, ◌-◌, ◌≤◌, List, length, take, ℤ, pos, ◌≤ℤ◌, sym, ap, ◌∙◌, subst, arith, length-set, w32, w64, SFits, to_z, of_z, rules}
 use lib.Signed.{le_z, le_z_yes}
 use Rattle.std.proofs.lemmas.List.{length-map}
 use Rattle.std.proofs.lemmas.Int.{ints, to_z-of_z}
 use Rattle.layout.proofs.Count.{both_left, both_right}
 use Rattle.dossier.specs.Dossier as view
 use Rattle.dossier.specs.Lines.{line_holds}
-use Rattle.dossier.specs.Rows.{Row, each}
+use Rattle.dossier.specs.Rows.{Row}
 use Rattle.certificate.specs.Arrays.{row_of, rows_of, held, Weighted}
 use Rattle.certificate.proofs.Tables.{held_length}
 use Rattle.certificate.proofs.Fill.{filled_more}
 use Rattle.certificate.proofs.Weights.{table_factors, weighted}
-use Rattle.certificate.proofs.judge.judge.Given as given
 use Rattle.certificate.proofs.judge.judge.Goals as goal
 
 same_line : (hs : List Row) (r : Row) {v v' : ℕ} {d d' : ℤ} {ms ms' : List ℤ} → v ≡ v' → d ≡ d' → ms ≡ ms' → line_holds v d ms hs r ≡ line_holds v' d' ms' hs r

@@ -1,4 +1,4 @@
-use Rattle.std.proofs.Common.{◌≡◌, ◌+◌, ◌*◌, ◌<◌, [], length, get_or, pos, ◌+ℤ◌, ◌*ℤ◌, sym, ap, ◌∙◌, subst, arith, w64, SFits, rules}
+use Rattle.std.proofs.Common.{◌+◌, ◌*◌, ◌<◌, [], length, get_or, pos, ◌+ℤ◌, sym, ◌∙◌, subst, arith, w64, SFits, rules}
 use Rattle.std.proofs.lemmas.List.{get_or-map, length-map}
 use Rattle.std.proofs.lemmas.Int.{to_z-of_z}
 use Rattle.dossier.specs.Rows.{zero_row}

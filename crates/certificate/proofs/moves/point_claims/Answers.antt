@@ -1,11 +1,9 @@
-use Rattle.std.proofs.Common.{◌≡◌, ◌+◌, ◌<◌, true, false, cond, eqb, [], sym, ap, ◌∙◌, subst, ap₂, append-nil, arith}
+use Rattle.std.proofs.Common.{◌≡◌, ◌+◌, ◌<◌, false, cond, eqb, [], sym, ap, ◌∙◌, subst, ap₂, append-nil, arith}
 use Rattle.std.proofs.lemmas.Bool.{ne_eqb}
 use Rattle.layout.proofs.Count.{formed_ranges}
 use Rattle.dossier.specs.Admission as admission
 use Rattle.dossier.specs.Dossier as view
 use Rattle.dossier.proofs.CellRanges.{some_run_ranges}
-use Rattle.certificate.specs.Arrays.{held}
-use Rattle.certificate.specs.Falls.{Begins}
 use Rattle.certificate.proofs.Choosing.{chosen_first}
 use Rattle.certificate.proofs.Places.{few_points}
 use Rattle.certificate.proofs.moves.point_claims.Goals as goal

@@ -1,7 +1,7 @@
-use Rattle.std.proofs.Common.{◌≡◌, ℕ, suc, ◌-◌, List, [], ◌∷◌, ◌++◌, length, sym, ap, ◌∙◌, ap₂, append_assoc, arith}
+use Rattle.std.proofs.Common.{◌≡◌, suc, ◌-◌, [], ◌∷◌, ◌++◌, length, ap, ◌∙◌, append_assoc, arith}
 use Rattle.std.proofs.lemmas.List.{length-append}
 use Rattle.dossier.specs.Admission.{impossible}
-use Rattle.dossier.specs.Rows.{Row, each, minus_one, zero_row}
+use Rattle.dossier.specs.Rows.{each, minus_one, zero_row}
 use Rattle.certificate.specs.Arrays.{row_of, held}
 use Rattle.certificate.proofs.moves.push_impossible.Goals as goal
 

@@ -1,4 +1,4 @@
-use Rattle.std.proofs.Common.{◌≡◌, ◌++◌, ap, ◌∙◌, ap₂, arith}
+use Rattle.std.proofs.Common.{◌++◌, ap, ◌∙◌, ap₂, arith}
 use Rattle.layout.specs.Layout.{point_rows}
 use Rattle.layout.proofs.Count.{formed_ranges}
 use Rattle.dossier.specs.Dossier as view

@@ -1,8 +1,7 @@
-use Rattle.std.proofs.Common.{◌≡◌, ℕ, zero, suc, ◌<◌, cond, ltb, length, get_or, ℤ, pos, ◌-ℤ◌, sym, refl, ap, ◌∙◌, ap₂, arith, length-set, get_or-set_other, get_or-set_same, w64, SFits, to_z, of_z, rules}
-use Rattle.std.proofs.lemmas.List.{get_or_past}
+use Rattle.std.proofs.Common.{◌≡◌, ◌<◌, length, get_or, pos, ◌-ℤ◌, ◌∙◌, arith, length-set, w64, SFits, to_z, rules}
 use Rattle.std.proofs.lemmas.Int.{to_z-of_z, to_z_pos}
 use Rattle.dossier.specs.Rows as rows
-use Rattle.certificate.specs.Arrays.{row_of, Within}
+use Rattle.certificate.specs.Arrays.{row_of}
 use Rattle.certificate.proofs.Fill.{filled_more}
 use Rattle.certificate.proofs.Differences.{difference_fits, less_fits, all_columns, set_constant}
 use Rattle.certificate.proofs.rows.difference.Goals as goal

@@ -1,4 +1,4 @@
-use Rattle.std.proofs.Common.{◌≡◌, ◌<◌, cond, ltb, [], length, get_or, pos, ap, ◌∙◌, arith, length-set, w64, SFits, rules}
+use Rattle.std.proofs.Common.{◌<◌, [], length, get_or, ◌∙◌, arith, length-set, w64, SFits, rules}
 use Rattle.std.proofs.lemmas.Int.{to_z-of_z}
 use Rattle.dossier.specs.Rows as rows
 use Rattle.certificate.specs.Arrays.{row_of}

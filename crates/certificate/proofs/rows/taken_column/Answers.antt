@@ -1,5 +1,5 @@
-use Rattle.std.proofs.Common.{◌≡◌, suc, ◌+◌, ◌*◌, [], get_or, pos, ◌+ℤ◌, ◌*ℤ◌, sym, ap, ◌∙◌, subst, add-one, arith, w64, SFits, rules}
-use Rattle.std.proofs.lemmas.Int.{ints, to_z-of_z}
+use Rattle.std.proofs.Common.{◌≡◌, suc, ◌+◌, ◌*◌, [], get_or, pos, ◌+ℤ◌, ◌*ℤ◌, ap, ◌∙◌, subst, add-one, arith, w64, SFits, rules}
+use Rattle.std.proofs.lemmas.Int.{to_z-of_z}
 use Rattle.dossier.specs.Rows.{sum_to, constant}
 use Rattle.certificate.specs.Arrays.{row_of, Within}
 use Rattle.certificate.proofs.Bounds.{sum_within, within_more, fits_64}

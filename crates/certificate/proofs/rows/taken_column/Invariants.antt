@@ -1,4 +1,4 @@
-use Rattle.std.proofs.Common.{◌≡◌, suc, ◌+◌, ◌*◌, [], get_or, pos, ◌+ℤ◌, ◌*ℤ◌, neg_ℤ, ◌≤ℤ◌}
+use Rattle.std.proofs.Common.{◌≡◌, suc, ◌+◌, ◌*◌, [], get_or, ◌+ℤ◌, ◌*ℤ◌}
 use Rattle.dossier.specs.Rows.{sum_to, constant}
 use Rattle.certificate.specs.Arrays.{row_of, Within}
 use Rattle.certificate.proofs.rows.taken_column.Given as goal

@@ -1,4 +1,4 @@
-use Rattle.std.proofs.Common.{◌≡◌, ◌<◌, ◌++◌, length, sym, ap, ◌∙◌, arith}
+use Rattle.std.proofs.Common.{◌<◌, ◌++◌, length, sym, ap, ◌∙◌, arith}
 use Rattle.layout.specs.Layout.{point_rows}
 use Rattle.dossier.specs.declared.fault.AdmitFault.TheVariants.{PointLine}
 use Rattle.dossier.specs.Admission as admission

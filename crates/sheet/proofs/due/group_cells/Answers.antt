@@ -1,4 +1,4 @@
-use Rattle.std.proofs.Common.{◌^◌, ◌<◌, arith, rules}
+use Rattle.std.proofs.Common.{arith, rules}
 use Rattle.sheet.proofs.Products.{once_below, passes_below}
 use Rattle.sheet.proofs.due.group_cells.Goals as goal
 

@@ -1,4 +1,4 @@
-use Rattle.std.proofs.Common.{◌≡◌, ℕ, ◌+◌, ◌-◌, ◌*◌, ◌^◌, ◌<◌, ◌≤◌, List, [], ◌++◌, length, get_or, drop, sym, refl, ap, ◌∙◌, subst, add-zero, arith, lit<}
+use Rattle.std.proofs.Common.{◌≡◌, ◌-◌, ◌^◌, ◌<◌, ◌++◌, length, get_or, drop, sym, ap, ◌∙◌, subst, add-zero, arith, lit<}
 use Rattle.layout.specs.Reading.{digits, ahead, nibble}
 use Rattle.layout.proofs.Hex.{digit_nibble}
 use Rattle.sheet.proofs.Bytes.{shifted_small, seven_digits, shifted_most, part_more}

@@ -1,6 +1,5 @@
 use Rattle.std.proofs.Common.{◌≡◌, suc, ◌+◌, ◌-◌, sym, ap, ◌∙◌, arith}
 use Rattle.layout.specs.Layout.{group_pass, group_lines}
-use Rattle.layout.specs.Walk as walking
 use Rattle.sheet.specs.Store.{put}
 use Rattle.sheet.proofs.Walking.{stops, lines_more, lines_stop}
 use Rattle.sheet.proofs.walk.group_lines.Goals as goal

@@ -1,4 +1,4 @@
-use Rattle.std.proofs.Common.{◌≡◌, take, sym, ◌∙◌, subst}
+use Rattle.std.proofs.Common.{take, sym, ◌∙◌, subst}
 use Rattle.layout.specs.Layout.{InRanges, head_fields, unused}
 use Rattle.layout.specs.Text.{head_kind}
 use Rattle.layout.proofs.Count.{counts_take, head_ranges}

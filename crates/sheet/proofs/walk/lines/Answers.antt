@@ -1,5 +1,4 @@
-use Rattle.std.proofs.Common.{◌≡◌, suc, ◌+◌, ◌-◌, [], ◌∷◌, ◌++◌, replicate, sym, ap, ◌∙◌, arith}
-use Rattle.layout.specs.Walk as walking
+use Rattle.std.proofs.Common.{◌≡◌, suc, ◌+◌, ◌-◌, [], ◌∷◌, replicate, sym, ap, ◌∙◌, arith}
 use Rattle.sheet.specs.Store.{put}
 use Rattle.sheet.proofs.Walking.{stops, one_line, lines_more, lines_stop}
 use Rattle.sheet.proofs.walk.lines.Goals as goal

@@ -1,4 +1,4 @@
-use Rattle.std.proofs.Common.{◌≡◌, replicate, sym, refl, ap, ◌∙◌}
+use Rattle.std.proofs.Common.{replicate, sym, refl, ap, ◌∙◌}
 use Rattle.layout.specs.Walk as walking
 use Rattle.sheet.specs.Store.{put}
 use Rattle.sheet.proofs.Walking.{stops, lines_more, lines_stop, answers_from}

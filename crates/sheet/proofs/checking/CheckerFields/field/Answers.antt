@@ -1,4 +1,4 @@
-use Rattle.std.proofs.Common.{◌≡◌, get_or, pos, Ok, sym, refl, ap, ◌∙◌, arith, w32, w64, SFits, rules}
+use Rattle.std.proofs.Common.{get_or, pos, Ok, sym, refl, ap, ◌∙◌, arith, w32, w64, SFits, rules}
 use Rattle.std.proofs.lemmas.Int.{to_z-of_z}
 use Rattle.layout.specs.Reading.{ahead}
 use Rattle.sheet.proofs.Listed.{cell_past, cell_there}

@@ -1,4 +1,4 @@
-use Rattle.std.proofs.Common.{◌≡◌, Ok, sym, refl, ap, ◌∙◌, arith}
+use Rattle.std.proofs.Common.{Ok, sym, refl, ap, ◌∙◌, arith}
 use Rattle.layout.specs.Reading.{ahead}
 use Rattle.sheet.proofs.Runs.{run_short, run_part}
 use Rattle.sheet.proofs.checking.CheckerFields.run.Goals as goal

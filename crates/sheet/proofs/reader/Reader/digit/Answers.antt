@@ -1,4 +1,4 @@
-use Rattle.std.proofs.Common.{◌≡◌, get_or, Err, sym, refl, ap, ◌∙◌, arith}
+use Rattle.std.proofs.Common.{get_or, Err, sym, refl, ap, ◌∙◌, arith}
 use Rattle.layout.specs.Reading.{nibble}
 use Rattle.sheet.proofs.Bytes.{digit_over, digit_there, feed_there, other_there}
 use Rattle.sheet.proofs.Nibbles.{is_digit, no_digit_at}

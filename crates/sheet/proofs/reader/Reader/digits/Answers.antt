@@ -1,4 +1,4 @@
-use Rattle.std.proofs.Common.{sym, refl, arith}
+use Rattle.std.proofs.Common.{sym, refl}
 use Rattle.sheet.proofs.Bytes.{fast_small, fast_digits}
 use Rattle.sheet.proofs.reader.Reader.digits.Goals as goal
 
