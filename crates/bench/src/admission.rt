@@ -57,8 +57,8 @@ fn time_admissions<S: Source + Drop>(
         sum = sum.wrapping_add(lines);
     }
     let name = match form {
-        Form::EveryRun => "every_run",
-        Form::SomeRun => "some_run",
+        Form::EveryRun => "every-run",
+        Form::SomeRun => "some-run",
     };
     println!(rt; "{ADMISSIONS} admissions, {name}, {sum} proof lines in all")?;
     let line = timing.fastest_part(sum / ADMISSIONS as usize);
@@ -85,6 +85,6 @@ fn time_sheet(
 pub(crate) fn time_both(
     rt: &(impl Files + Print + Eprint + Clock + AllocGlobal),
 ) -> anyhow::Result<()> {
-    time_sheet(rt, "every_run.sheet", Form::EveryRun)?;
-    time_sheet(rt, "some_run.sheet", Form::SomeRun)
+    time_sheet(rt, "every-run.sheet", Form::EveryRun)?;
+    time_sheet(rt, "some-run.sheet", Form::SomeRun)
 }

@@ -44,7 +44,7 @@ fn refused<S: Source + Drop, K: Drop>(refused: Refused<S, K>, count: usize, last
 fn admit<S: Source + Drop, K: RankKind + Drop>(source: S, form: &str, kind: K) -> Verdict {
     let count = source.count();
     let last = source.cell(count.wrapping_sub(1));
-    if form == "every_run" {
+    if form == "every-run" {
         match admit_every_run(source, kind) {
             Ok((lines, _)) => Verdict::Admitted(lines),
             Err(back) => refused(back, count, last),

@@ -1,4 +1,4 @@
--- Bounds of the rows that proof lines compare, from the ranges of a well_formed list's cells.
+-- Bounds of the rows that proof lines compare, from the ranges of a well-formed list's cells.
 use Rattle.std.proofs.Common.{◌≡◌, ℕ, zero, suc, ◌+◌, ◌*◌, ◌<◌, ◌≤◌, cond, List, [], get_or, ℤ, pos, negsuc, ◌+ℤ◌, ◌*ℤ◌, ◌≤ℤ◌, sym, refl, ap, ◌∙◌, subst, ap₂, ⊎_elim, suc-mul, zero-mul, arith, le-ltb, lt-ltb, le-leb}
 use lib.IntN.{*ℤ-zero}
 use lib.Signed.{le_z, le_z_yes}

@@ -32,7 +32,7 @@ module _ (kind : Kind) (cells : List ℤ) where
   abbrev all_choices : List Trial
   all_choices = flat_map (choice_trials cells kind) (each (points (head cells)) (λ p. p))
 
-  -- the every_run form, as far as its parts have passed
+  -- the every-run form, as far as its parts have passed
   module _ (h : Counts) (n : ℕ) (same : h ≡ head cells) (numbers : n ≡ kind.numbers) where
     pub every_called_fails : (f : AdmitFault) → Err f ≡ passed (called_for h 1 n ∷ []) → Err f ≡ admit_every_run kind cells
     unfolding admit_every_run
@@ -56,7 +56,7 @@ module _ (kind : Kind) (cells : List ℤ) where
         pub moves_decide : Ok tt ≡ passed (start_trials cells) → (o : Option AdmitFault) → o ≡ first_failure all_moves → verdict (every_run_lines cells) o ≡ admit_every_run kind cells
         moves_decide started o e = start_rest (verdict (every_run_lines cells) o) (rest_decides (every_run_lines cells) (start_trials cells) all_moves (none_fails (start_trials cells) started) _ (ap (verdict (every_run_lines cells)) e))
 
-    -- the some_run form
+    -- the some-run form
     pub some_called_fails : (f : AdmitFault) → Err f ≡ passed (called_for h 2 n ∷ []) → Err f ≡ admit_some_run kind cells
     unfolding admit_some_run
     some_called_fails f r = first_decides (some_run_lines cells) (called_for (head cells) 2 kind.numbers ∷ []) (shown_trials cells ++ all_choices) f (called_fails cells h 2 n kind.numbers f same numbers r)

@@ -37,7 +37,7 @@ fn called_for(head: &Head, form: usize, numbers: usize) -> Result<(), AdmitFault
     }
 }
 
-// The tests of the every_run form in order, and the number of proof lines.
+// The tests of the every-run form in order, and the number of proof lines.
 fn judge_every_run<S: Source, K: RankKind>(source: &S, kind: &K) -> Result<usize, AdmitFault>
     ensures { result ≡ admit_every_run K.RankKind.kind (S.Source.cells source.now) }
 {
@@ -55,7 +55,7 @@ fn judge_every_run<S: Source, K: RankKind>(source: &S, kind: &K) -> Result<usize
     Ok(rows_of_point(&head) + moves * conclusions_of(&head))
 }
 
-// The tests of the some_run form in order, and the number of proof lines.
+// The tests of the some-run form in order, and the number of proof lines.
 fn judge_some_run<S: Source, K: RankKind>(source: &S, kind: &K) -> Result<usize, AdmitFault>
     ensures { result ≡ admit_some_run K.RankKind.kind (S.Source.cells source.now) }
 {
@@ -71,7 +71,7 @@ fn judge_some_run<S: Source, K: RankKind>(source: &S, kind: &K) -> Result<usize,
     Ok(points(&head) * point_conclusions(&head))
 }
 
-// The verdict on an every_run dossier, and what it buys.
+// The verdict on an every-run dossier, and what it buys.
 fn every_run_verdict<S: Source, K: RankKind>(source: &S, kind: &K) -> Result<usize, AdmitFault>
     ensures outcome { result ≡ admit_every_run K.RankKind.kind (S.Source.cells source.now) }
     ensures exactly { AdmittedExactly K.RankKind.kind (S.Source.cells source.now) }
@@ -82,7 +82,7 @@ fn every_run_verdict<S: Source, K: RankKind>(source: &S, kind: &K) -> Result<usi
     judge_every_run(source, kind)
 }
 
-// Admits an every_run dossier at a rank kind and answers how many proof lines were judged; or hands the dossier back with the first test that fails.
+// Admits an every-run dossier at a rank kind and answers how many proof lines were judged; or hands the dossier back with the first test that fails.
 pub fn admit_every_run<S: Source, K: RankKind>(
     source: S,
     kind: K,
@@ -111,7 +111,7 @@ pub fn admit_every_run<S: Source, K: RankKind>(
     }
 }
 
-// The verdict on a some_run dossier, and what it buys.
+// The verdict on a some-run dossier, and what it buys.
 fn some_run_verdict<S: Source, K: RankKind>(source: &S, kind: &K) -> Result<usize, AdmitFault>
     ensures outcome { result ≡ admit_some_run K.RankKind.kind (S.Source.cells source.now) }
     ensures exactly { AdmittedExactly K.RankKind.kind (S.Source.cells source.now) }
@@ -120,7 +120,7 @@ fn some_run_verdict<S: Source, K: RankKind>(source: &S, kind: &K) -> Result<usiz
     judge_some_run(source, kind)
 }
 
-// Admits a some_run dossier at a rank kind and answers how many proof lines were judged; or hands the dossier back with the first test that fails.
+// Admits a some-run dossier at a rank kind and answers how many proof lines were judged; or hands the dossier back with the first test that fails.
 pub fn admit_some_run<S: Source, K: RankKind>(
     source: S,
     kind: K,

@@ -3,11 +3,11 @@ ghost use Rattle.std.specs.Prelude.{◌≡◌};
 
 use dossier::fault::AdmitFault;
 
-// Marks an admitted every_run dossier.
+// Marks an admitted every-run dossier.
 #[derive(Clone, Copy)]
 pub struct EveryRun;
 
-// Marks an admitted some_run dossier.
+// Marks an admitted some-run dossier.
 #[derive(Clone, Copy)]
 pub struct SomeRun;
 

@@ -1,4 +1,4 @@
-// The tests of the every_run form.
+// The tests of the every-run form.
 ghost use Rattle.std.specs.Prelude.{◌≡◌};
 ghost use Rattle.layout.specs.Heads.{counts_of};
 ghost use Rattle.dossier.specs.Admission as admission;

@@ -28,7 +28,7 @@ fn joined<S: Source>(source: &S, head: &Head, mode: usize, step: usize, edge: us
     }
 }
 
-// A move of an every_run dossier by its number, none if there is no such move.
+// A move of an every-run dossier by its number, none if there is no such move.
 pub fn move_of<S: Source>(source: &S, index: usize) -> Option<Move>
     ensures { result ≡ move_written (S.Source.cells source.now) index }
 {
@@ -41,7 +41,7 @@ pub fn move_of<S: Source>(source: &S, index: usize) -> Option<Move>
     Some(joined(source, &head, mode, index / edges, index % edges))
 }
 
-// The move that a point of a some_run dossier chooses, none if there is no such point.
+// The move that a point of a some-run dossier chooses, none if there is no such point.
 pub fn choice_of<S: Source>(source: &S, point: usize) -> Option<Move>
     ensures { result ≡ choice_written (S.Source.cells source.now) point }
 {

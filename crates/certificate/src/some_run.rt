@@ -1,4 +1,4 @@
-// The tests of the some_run form.
+// The tests of the some-run form.
 ghost use Rattle.std.specs.Prelude.{◌≡◌, ◌<◌};
 ghost use Rattle.std.specs.List.{flat_map};
 ghost use Rattle.layout.specs.Heads.{counts_of};

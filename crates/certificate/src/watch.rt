@@ -12,7 +12,7 @@ use dossier::fault::AdmitFault;
 use layout::head::Head;
 use sources::source::Source;
 
-// Whether a letter has every bit of an edge's must mask and none of its must_not mask.
+// Whether a letter has every bit of an edge's must mask and none of its must-not mask.
 fn edge_matches<S: Source>(source: &S, head: &Head, edge: usize, letter: usize) -> bool
     requires { (counts_of head.now ≡ view.head (S.Source.cells source.now)) × (edge ≤ 12) }
     ensures { result ≡ runs.matches (S.Source.cells source.now) edge letter }

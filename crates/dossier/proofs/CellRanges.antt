@@ -1,4 +1,4 @@
--- The ranges of a well_formed list's cells, part by part.
+-- The ranges of a well-formed list's cells, part by part.
 use Rattle.std.proofs.Common.{◌≡◌, ℕ, zero, suc, ◌+◌, ◌-◌, ◌*◌, ◌^◌, ◌<◌, ◌≤◌, true, cond, T, eqb, leb, List, [], ◌∷◌, length, get_or, take, ℤ, pos, negsuc, refl, ap, ◌∙◌, subst, inl, inr, suc-le-suc, add-mul, arith, lit<, eqb→eq, leb→le, get_or-take, pow_pos}
 use lib.Arith.{digits_lt}
 use lib.Bits.{bit_and}

@@ -1,4 +1,4 @@
--- In a run of an admitted every_run dossier the watch goes on at every letter, each situation is within its region, and an endless run comes to marked points again and again.
+-- In a run of an admitted every-run dossier the watch goes on at every letter, each situation is within its region, and an endless run comes to marked points again and again.
 use Rattle.std.proofs.Common.{◌≡◌, ℕ, zero, suc, ◌+◌, ◌*◌, ◌/◌, ◌<◌, true, T, List, ◌++◌, ℤ, sym, ap, subst, ap₂, add-one, arith}
 use lib.Arith.{digits_lt}
 use Rattle.std.proofs.lemmas.Nat.{div-mul-add, mod-mul-add}

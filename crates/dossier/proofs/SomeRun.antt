@@ -1,4 +1,4 @@
--- In an admitted some_run dossier the choices can be followed from the shown values for ever, and marked points are visited again and again.
+-- In an admitted some-run dossier the choices can be followed from the shown values for ever, and marked points are visited again and again.
 use Rattle.std.proofs.Common.{◌≡◌, ℕ, zero, suc, ◌+◌, ◌/◌, ◌%◌, ◌<◌, ◌≤◌, true, cond, T, eqb, List, ◌++◌, ℤ, sym, refl, ap, ◌∙◌, subst, ⊎_elim, le_trans, le_of_eq, le_refl, le-add_right, add-le-add, add-one, arith, eqb→eq}
 use lib.Arith.{digits_lt}
 use Rattle.std.proofs.lemmas.Nat.{div-mul-add, mod-mul-add}

@@ -115,7 +115,7 @@ module _ (cells : List ℤ) where
   hold_row_trials i [] h = tt
   hold_row_trials i (r ∷ rs) h = (h.0, hold_row_trials (suc i) rs h.1)
 
--- every_run form ------------------------------------------------------------------------------------
+-- every-run form ------------------------------------------------------------------------------------
 
 module _ (kind : Kind) (cells : List ℤ) where
   abbrev all_moves : List Admission.Trial
@@ -166,7 +166,7 @@ module _ (kind : Kind) (cells : List ℤ) where
         (conclusions (head cells)) (Admission.move_claims cells kind m) (length_move_claims cells kind m) (λ k l. t.move_lines m k h l)))),
   )
 
--- some_run form -------------------------------------------------------------------------------------
+-- some-run form -------------------------------------------------------------------------------------
 
 module _ (kind : Kind) (cells : List ℤ) where
   abbrev regions : List Row

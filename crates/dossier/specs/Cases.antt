@@ -18,7 +18,7 @@ use Rattle.dossier.specs.Rows.{Row, each}
 pub data Case : Type 0 where
   -- a text, the cells handed over, and what reading answers
   reads : List ℕ → ℕ → Result (List ℤ) Refusal → Case
-  -- a text, the count of rank numbers called for in the every_run form, and what admission answers to its cells
+  -- a text, the count of rank numbers called for in the every-run form, and what admission answers to its cells
   admits : List ℕ → ℕ → Result ℕ Refusal → Case
   -- divisor, multiplier, hypothesis and conclusion of a line over one variable, and whether it holds
   judges : ℤ → ℤ → Row → Row → Bool → Case

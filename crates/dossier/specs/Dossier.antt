@@ -27,7 +27,7 @@ module _ (h : Counts) where
   abbrev pub state_at : ℕ → ℕ
   state_at q = proposition_at h.propositions + q
 
-  -- from, to, must mask, must_not mask
+  -- from, to, must mask, must-not mask
   abbrev pub edge_at : ℕ → ℕ
   edge_at e = state_at h.states + e * 4
 
@@ -38,28 +38,28 @@ module _ (h : Counts) where
   abbrev pub points : ℕ
   points = h.places * h.states
 
-  -- every_run form: a divisor and a multiplier for each start row
+  -- every-run form: a divisor and a multiplier for each start row
   abbrev pub start_line_at : ℕ → ℕ
   start_line_at k = point_at points + k * (1 + h.start_rows)
 
   abbrev pub move_hypotheses : ℕ
   move_hypotheses = point_rows h + h.guards + h.propositions
 
-  -- every_run form: the mode, then a line for each conclusion
+  -- every-run form: the mode, then a line for each conclusion
   abbrev pub move_at : ℕ → ℕ
   move_at m = start_line_at (point_rows h) + m * (1 + conclusions h * (1 + move_hypotheses))
 
   abbrev pub move_line_at : ℕ → ℕ → ℕ
   move_line_at m k = move_at m + 1 + k * (1 + move_hypotheses)
 
-  -- some_run form: the shown values
+  -- some-run form: the shown values
   abbrev pub shown_at : ℕ → ℕ
   shown_at i = point_at points + i
 
   abbrev pub point_conclusions : ℕ
   point_conclusions = h.guards + h.propositions + conclusions h
 
-  -- some_run form: mode, step and edge, then a line for each conclusion
+  -- some-run form: mode, step and edge, then a line for each conclusion
   abbrev pub choice_at : ℕ → ℕ
   choice_at p = shown_at h.variables + p * (3 + point_conclusions * (1 + point_rows h))
 
@@ -119,7 +119,7 @@ module _ (cells : List ℤ) where
   abbrev pub edge_to : ℕ → ℕ
   edge_to e = number (edge_at head e + 1)
 
-  -- an edge matches a letter with every bit of its must mask and none of its must_not mask
+  -- an edge matches a letter with every bit of its must mask and none of its must-not mask
   abbrev pub must : ℕ → ℕ
   must e = number (edge_at head e + 2)
 

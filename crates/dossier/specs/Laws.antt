@@ -27,7 +27,7 @@ abbrev pub AllPass : List Trial → Type 0
 AllPass [] = Unit {0}
 AllPass (t ∷ ts) = T t.passes × AllPass ts
 
--- each test of an every_run dossier by itself
+-- each test of an every-run dossier by itself
 pub record EveryRunTests (kind : Kind) (cells : List ℤ) : Type 0 where
   pub form : (head cells).form ≡ 1
   pub numbers : (head cells).rank_numbers ≡ kind.numbers
@@ -36,7 +36,7 @@ pub record EveryRunTests (kind : Kind) (cells : List ℤ) : Type 0 where
   pub start_lines : (k : ℕ) → k < point_rows (head cells) → T (start_line cells k)
   pub move_lines : (m k : ℕ) → m < moves cells → k < conclusions (head cells) → T (move_line cells kind m k)
 
--- each test of a some_run dossier by itself
+-- each test of a some-run dossier by itself
 pub record SomeRunTests (kind : Kind) (cells : List ℤ) : Type 0 where
   pub form : (head cells).form ≡ 2
   pub numbers : (head cells).rank_numbers ≡ kind.numbers
@@ -86,7 +86,7 @@ pub record AdmittedExactly (kind : Kind) (cells : List ℤ) : Type 0 where
 abbrev pub ExactlyLaw : Type 1
 ExactlyLaw = (kind : Kind) (cells : List ℤ) → AdmittedExactly kind cells
 
--- what admission buys: at a well_formed list and a lawful kind
+-- what admission buys: at a well-formed list and a lawful kind
 abbrev pub EveryRunTheorem : Type 1
 EveryRunTheorem = (kind : Kind) → Lawful kind → (cells : List ℤ) → well_formed cells ≡ true → (n : ℕ) → admit_every_run kind cells ≡ Ok n → EveryRunLaw cells
 

@@ -1,4 +1,4 @@
--- The ranges of a well_formed list's cells, part by part.
+-- The ranges of a well-formed list's cells, part by part.
 use Rattle.std.specs.Prelude.{◌≡◌, ℕ, ◌+◌, ◌*◌, ◌^◌, ◌<◌, ◌≤◌, T, List, ℤ, pos, negsuc, bit_and}
 use Rattle.layout.specs.Cells.{between}
 use Rattle.layout.specs.Layout.{InRanges, point_rows, conclusions}

@@ -23,7 +23,7 @@ module _ (cells : List ℤ) where
   abbrev pub letter : ℕ → List ℤ → ℕ
   letter place values = letter_below (head cells).propositions place values
 
-  -- every bit of the must mask and none of the must_not mask
+  -- every bit of the must mask and none of the must-not mask
   abbrev pub matches : ℕ → ℕ → Bool
   matches e l = both (bit_and l (must cells e) == must cells e) (bit_and l (must_not cells e) == 0)
 
@@ -87,7 +87,7 @@ module _ (cells : List ℤ) where
   abbrev pub Goes_on : ℕ → ℕ → Type 0
   Goes_on q l = (e : ℕ) × (e < (head cells).edges) × (edge_from cells e ≡ q) × T (matches e l)
 
-  -- what admission buys of an every_run dossier
+  -- what admission buys of an every-run dossier
   pub record EveryRunLaw : Type 0 where
     -- from every state some edge goes on with every letter
     pub watched : (q l : ℕ) → q < (head cells).states → l < 2 ^ (head cells).propositions → Goes_on q l
@@ -110,7 +110,7 @@ module _ (cells : List ℤ) where
   marked_below zero run = 0
   marked_below (suc n) run = marked_below n run + cond (marked (run n)) 1 0
 
-  -- what admission buys of a some_run dossier: the choices can be followed for ever, and marked points are visited again and again
+  -- what admission buys of a some-run dossier: the choices can be followed for ever, and marked points are visited again and again
   pub record SomeRunLaw : Type 0 where
     pub starts : Start shown_start
     -- following the choices is an endless run

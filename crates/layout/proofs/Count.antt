@@ -1,4 +1,4 @@
--- How many cells a well_formed list has, and the ranges of its head's numbers.
+-- How many cells a well-formed list has, and the ranges of its head's numbers.
 use Rattle.std.proofs.Common.{◌≡◌, ℕ, zero, suc, ◌+◌, ◌*◌, ◌<◌, ◌≤◌, Bool, true, false, cond, T, leb, List, [], ◌∷◌, ◌++◌, length, get_or, take, drop, replicate, ℤ, pos, negsuc, sum_by, sym, refl, ap, ◌∙◌, subst, append_assoc, append-nil, suc-le-suc, le_of_suc-le-suc, not-suc-le-zero, add-le-add, suc-mul, mul-le-mul, zero-mul, arith, lit<, eqb→eq, leb→le, length-drop, length-take, get_or-take}
 use Rattle.std.specs.List.{flat_map}
 use Rattle.std.proofs.lemmas.List.Sums.{sum_by-cons, sum_by-append}
@@ -152,7 +152,7 @@ cond_cells_le : (t : Bool) (g k : Group) (n : ℕ) → group_cells g ≤ n → g
 cond_cells_le true g k n hg hk = hg
 cond_cells_le false g k n hg hk = hk
 
--- in the every_run form the last group alone has 29,376 cells at most; the some_run form has fewer in both of its groups
+-- in the every-run form the last group alone has 29,376 cells at most; the some-run form has fewer in both of its groups
 pub due_most : (h : Counts) → InRanges h → cells_due h ≤ 32067
 unfolding cells_due
 due_most h r =
@@ -173,7 +173,7 @@ due_most h r =
     let last = cond_cells_le (every_run h) (moves_group h) (choices_group h) 29376 moved (omega arith) in
     omega arith
 
--- a well_formed list's parts ----------------------------------------------------------------------
+-- a well-formed list's parts ----------------------------------------------------------------------
 
 pub record Formed (cells : List ℤ) : Type 0 where
   pub head : T (line_holds head_fields unused 0 (take head_width cells))

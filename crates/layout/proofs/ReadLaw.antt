@@ -1,4 +1,4 @@
--- A text is read exactly when it is the text of a well_formed list, and so a list has one text and a text one list.
+-- A text is read exactly when it is the text of a well-formed list, and so a list has one text and a text one list.
 use Rattle.std.proofs.Common.{◌≡◌, ℕ, ◌+◌, ◌≤◌, Bool, true, false, cond, ltb, leb, List, [], ◌++◌, length, take, drop, ℤ, Ok, Err, Result, sym, refl, ap, ◌∙◌, subst, append-nil, arith, length-drop, take-append-drop}
 use Rattle.std.proofs.lemmas.List.{take_at, drop_at, take_all, take-take, drop_all}
 use Rattle.std.proofs.lemmas.Bool.{ltb-false, le-ltb, leb-true, le-leb}

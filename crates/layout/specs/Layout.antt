@@ -179,7 +179,7 @@ module _ (h : Counts) where
     count = h.variables + 1;
   }
 
-  -- from, to, must mask, must_not mask
+  -- from, to, must mask, must-not mask
   abbrev pub edge : Frame
   edge = record {
     kind = 0x51;
@@ -220,18 +220,18 @@ module _ (h : Counts) where
   abbrev pub points_group : Group
   points_group = record { times = h.places * h.states; first = row 0x60; firsts = h.region_rows; second = row 0x61; seconds = h.rank_numbers }
 
-  -- every_run form: the mode and the lines of each move
+  -- every-run form: the mode and the lines of each move
   abbrev pub moves_group : Group
   moves_group = record { times = h.steps * h.edges; first = mode 0x71; firsts = 1; second = line 0x72 (point_rows + h.guards + h.propositions); seconds = conclusions }
 
-  -- some_run form: the choice and the lines of each point
+  -- some-run form: the choice and the lines of each point
   abbrev pub choices_group : Group
   choices_group = record { times = h.places * h.states; first = choice; firsts = 1; second = line 0x82 point_rows; seconds = h.guards + h.propositions + conclusions }
 
   abbrev pub every_run : Bool
   every_run = h.form == 1
 
-  -- every_run form: the start lines; some_run form: the shown values
+  -- every-run form: the start lines; some-run form: the shown values
   abbrev pub start_group : Group
   start_group = cond every_run (repeated point_rows (line 0x70 h.start_rows)) (repeated 1 (uniform 0x80 value h.variables))
 

@@ -148,7 +148,7 @@ fn masks(n: u16) -> i32
     (1 << n) - 1
 }
 
-// From, to, must mask and must_not mask.
+// From, to, must mask and must-not mask.
 fn edge(head: &Head) -> Frame
     ensures { result ≡ due.edge (counts_of head.now) }
 {

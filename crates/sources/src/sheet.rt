@@ -1,4 +1,4 @@
-// A sheet: a well_formed list of cells, held for reading.
+// A sheet: a well-formed list of cells, held for reading.
 ghost use Rattle.std.specs.Prelude.{◌≡◌, true};
 ghost use Rattle.layout.specs.Cases.{run_down_cells};
 ghost use Rattle.layout.specs.Cells.{well_formed};

@@ -31,8 +31,8 @@ impl Ranks {
 impl fmt::Display for Form {
     fn fmt<W: fmt::Write>(&self, f: &mut fmt::Formatter<W>) -> fmt::Result {
         match self {
-            Form::EveryRun => write!(f, "every_run"),
-            Form::SomeRun => write!(f, "some_run"),
+            Form::EveryRun => write!(f, "every-run"),
+            Form::SomeRun => write!(f, "some-run"),
         }
     }
 }

@@ -65,8 +65,8 @@ fn parse_call<'a>(heap: Global, words: &mut SplitWhitespace<'a>) -> Result<Call,
 
 fn form_named(heap: Global, word: &str) -> Result<Form, Mistake> {
     match word {
-        "every_run" => Ok(Form::EveryRun),
-        "some_run" => Ok(Form::SomeRun),
+        "every-run" => Ok(Form::EveryRun),
+        "some-run" => Ok(Form::SomeRun),
         _ => Err(Mistake::NoForm(String::from_str(heap, word)?)),
     }
 }

@@ -29,8 +29,8 @@ pub(crate) fn describe<S: Source>(source: &S) -> Description {
 
 fn form_name(form: i32) -> &'static str {
     match form {
-        1 => "every_run",
-        2 => "some_run",
+        1 => "every-run",
+        2 => "some-run",
         _ => "unknown",
     }
 }

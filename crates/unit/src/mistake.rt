@@ -31,9 +31,9 @@ impl fmt::Display for Mistake {
             Mistake::NoDossier => write!(f, "no dossier"),
             Mistake::NoCall => write!(
                 f,
-                "admit takes every_run or some_run and a count of rank numbers"
+                "admit takes every-run or some-run and a count of rank numbers"
             ),
-            Mistake::NoForm(word) => write!(f, "{word} is no form: every_run or some_run"),
+            Mistake::NoForm(word) => write!(f, "{word} is no form: every-run or some-run"),
             Mistake::NoRanks(word) => write!(f, "{word} is no count of rank numbers: 1 or 2"),
             Mistake::Memory => write!(f, "out of memory"),
         }

@@ -189,8 +189,8 @@ impl Unmet {
 
 fn form_name(form: usize) -> &'static str {
     match form {
-        1 => "every_run",
-        2 => "some_run",
+        1 => "every-run",
+        2 => "some-run",
         _ => "unknown",
     }
 }
