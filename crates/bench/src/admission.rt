@@ -2,7 +2,7 @@
 use crate::timing::Timing;
 use anyhow::anyhow;
 use certificate::admit::{admit_every_run, admit_some_run};
-use ranks::kind::TwoNumbers;
+use certificate::kind::TwoNumbers;
 use sheet::opening::open;
 use sheet::read::read;
 use sources::sheet::{Sheet, run_down};

@@ -64,7 +64,7 @@ fn judge(
 
 fn compare(rt: &HostRuntime, table: Table) -> anyhow::Result<()> {
     let (file, name) = match table {
-        Table::Readings => ("reading.txt", "readings"),
+        Table::Readings => ("reading.txt", "cases"),
         Table::Admissions => ("admission.txt", "admissions"),
     };
     let lines = fs::read_to_string(rt, file)?;

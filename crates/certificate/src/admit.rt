@@ -1,16 +1,18 @@
 // Admission: a dossier passes every test of its form, or the first that fails is named.
 ghost use Rattle.std.specs.Prelude.{◌≡◌, true, [], ◌∷◌, is_ok};
 ghost use Rattle.layout.specs.Heads.{counts_of};
-ghost use Rattle.dossier.specs.Admission.{called_for, admit_every_run, admit_some_run};
+ghost use Rattle.dossier.specs.Admission.{called_by, admit_every_run, admit_some_run};
+ghost use Rattle.dossier.specs.CaseTable.{WorkedTable};
 ghost use Rattle.dossier.specs.Cases.{WorkedCases};
-ghost use Rattle.dossier.specs.Laws.{AdmittedExactly, LineLaw};
-ghost use Rattle.dossier.specs.Runs.{EveryRunLaw, SomeRunLaw};
+ghost use Rattle.dossier.specs.Laws.{AdmittedExactly, AdmittedByTests, LineLaw};
+ghost use Rattle.dossier.specs.Runs.{Endless, followed, EveryRunLaw, WatchFollows, SomeRunLaw};
 ghost use Rattle.certificate.specs.Admits.{answered, refusal_of, refusal_due};
 ghost use Rattle.certificate.specs.Outcomes.{passed};
 
 use crate::admitted::{Admitted, EveryRun, Refused, SomeRun};
 use crate::cells::head;
 use crate::every_run::{failing_line, start_lines};
+use crate::kind::RankKind;
 use crate::offset::{conclusions_of, point_conclusions, points, rows_of_point};
 use crate::shown::shown_hold;
 use crate::some_run::failing_choice;
@@ -18,12 +20,11 @@ use crate::table::Table;
 use crate::watch::watch_complete;
 use dossier::fault::AdmitFault;
 use layout::head::Head;
-use ranks::kind::RankKind;
 use sources::source::Source;
 
 // Whether form and count of rank numbers are those called for.
 fn called_for(head: &Head, form: usize, numbers: usize) -> Result<(), AdmitFault>
-    ensures { result ≡ passed (called_for (counts_of head.now) form numbers ∷ []) }
+    ensures { result ≡ passed (called_by (counts_of head.now) form numbers ∷ []) }
 {
     let found = head.form as usize;
     let ranks = head.rank_numbers as usize;
@@ -75,9 +76,12 @@ fn judge_some_run<S: Source, K: RankKind>(source: &S, kind: &K) -> Result<usize,
 fn every_run_verdict<S: Source, K: RankKind>(source: &S, kind: &K) -> Result<usize, AdmitFault>
     ensures outcome { result ≡ admit_every_run K.RankKind.kind (S.Source.cells source.now) }
     ensures exactly { AdmittedExactly K.RankKind.kind (S.Source.cells source.now) }
+    ensures by_tests { AdmittedByTests K.RankKind.kind (S.Source.cells source.now) }
     ensures promised { is_ok result ≡ true → EveryRunLaw (S.Source.cells source.now) }
+    ensures follows { is_ok result ≡ true → WatchFollows (S.Source.cells source.now) }
     ensures line_law { LineLaw }
     ensures worked { WorkedCases }
+    ensures table { WorkedTable }
 {
     judge_every_run(source, kind)
 }
@@ -90,9 +94,12 @@ pub fn admit_every_run<S: Source, K: RankKind>(
     ensures outcome { result ≡ answered (admit_every_run K.RankKind.kind (S.Source.cells source)) source kind (record {}) }
     ensures refusal { refusal_of result ≡ refusal_due (admit_every_run K.RankKind.kind (S.Source.cells source)) }
     ensures exactly { AdmittedExactly K.RankKind.kind (S.Source.cells source) }
+    ensures by_tests { AdmittedByTests K.RankKind.kind (S.Source.cells source) }
     ensures promised { is_ok result ≡ true → EveryRunLaw (S.Source.cells source) }
+    ensures follows { is_ok result ≡ true → WatchFollows (S.Source.cells source) }
     ensures line_law { LineLaw }
     ensures worked { WorkedCases }
+    ensures table { WorkedTable }
 {
     match every_run_verdict(&source, &kind) {
         Ok(lines) => {
@@ -115,7 +122,9 @@ pub fn admit_every_run<S: Source, K: RankKind>(
 fn some_run_verdict<S: Source, K: RankKind>(source: &S, kind: &K) -> Result<usize, AdmitFault>
     ensures outcome { result ≡ admit_some_run K.RankKind.kind (S.Source.cells source.now) }
     ensures exactly { AdmittedExactly K.RankKind.kind (S.Source.cells source.now) }
+    ensures by_tests { AdmittedByTests K.RankKind.kind (S.Source.cells source.now) }
     ensures promised { is_ok result ≡ true → SomeRunLaw (S.Source.cells source.now) }
+    ensures endless { is_ok result ≡ true → Endless (S.Source.cells source.now) (followed (S.Source.cells source.now)) }
 {
     judge_some_run(source, kind)
 }
@@ -128,7 +137,9 @@ pub fn admit_some_run<S: Source, K: RankKind>(
     ensures outcome { result ≡ answered (admit_some_run K.RankKind.kind (S.Source.cells source)) source kind (record {}) }
     ensures refusal { refusal_of result ≡ refusal_due (admit_some_run K.RankKind.kind (S.Source.cells source)) }
     ensures exactly { AdmittedExactly K.RankKind.kind (S.Source.cells source) }
+    ensures by_tests { AdmittedByTests K.RankKind.kind (S.Source.cells source) }
     ensures promised { is_ok result ≡ true → SomeRunLaw (S.Source.cells source) }
+    ensures endless { is_ok result ≡ true → Endless (S.Source.cells source) (followed (S.Source.cells source)) }
 {
     match some_run_verdict(&source, &kind) {
         Ok(lines) => {

@@ -8,12 +8,12 @@ ghost use Rattle.certificate.specs.Falls.{Begins};
 
 use crate::cells::number;
 use crate::falls::{push_falls, push_zeros};
+use crate::kind::RankKind;
 use crate::offset::{edge_at, state_at};
 use crate::points::last_point;
 use crate::table::Table;
 use crate::taken::push_taken;
 use layout::head::Head;
-use ranks::kind::RankKind;
 use sources::source::Source;
 
 // Whether an edge begins at a marked state.

@@ -8,13 +8,13 @@ ghost use Rattle.dossier.specs.Rows.{each};
 ghost use Rattle.certificate.specs.Outcomes.{passed, move_fault};
 
 use crate::judge::judge;
+use crate::kind::RankKind;
 use crate::moves::{move_claims, move_hypotheses};
 use crate::offset::{move_line_at, start_line_at};
 use crate::points::{push_start_point, start_hypotheses};
 use crate::table::Table;
 use dossier::fault::AdmitFault;
 use layout::head::Head;
-use ranks::kind::RankKind;
 use sources::source::Source;
 
 // Whether every start line holds.
@@ -48,7 +48,7 @@ pub(crate) fn failing_line<S: Source, K: RankKind>(
     conclusions: &mut Table,
 ) -> Option<(usize, usize)>
     requires { (counts_of head.now ≡ view.head (S.Source.cells source.now)) × (((view.head (S.Source.cells source.now)).form ≡ 1) × ((view.head (S.Source.cells source.now)).rank_numbers ≡ K.RankKind.kind.numbers)) }
-    ensures { move_fault result ≡ admission.first_failure (flat_map (admission.move_trials (S.Source.cells source.now) K.RankKind.kind) (each (admission.moves (S.Source.cells source.now)) (λ m. m))) }
+    ensures { move_fault result ≡ admission.first_failure (flat_map (admission.trials_of_move (S.Source.cells source.now) K.RankKind.kind) (each (admission.moves (S.Source.cells source.now)) (λ m. m))) }
 {
     let edges = head.edges as usize;
     let mut failing = None;

@@ -6,10 +6,10 @@ ghost use Rattle.dossier.specs.Rows.{each, zero_row};
 ghost use Rattle.certificate.specs.Arrays.{row_of, held};
 ghost use Rattle.certificate.specs.Falls.{rows_from, There, Ready};
 
+use crate::kind::RankKind;
 use crate::rows::{difference, zero_row};
 use crate::table::Table;
 use dossier::fall::Fall;
-use ranks::kind::RankKind;
 
 // How far one number of a rank falls, less a number.
 fn fallen(

@@ -9,6 +9,7 @@ mod conclude;
 mod every_run;
 mod falls;
 mod judge;
+pub mod kind;
 mod line;
 mod moves;
 mod offset;

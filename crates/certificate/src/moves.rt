@@ -9,13 +9,13 @@ ghost use Rattle.certificate.specs.Falls.{Begins};
 use crate::cells::number;
 use crate::conclude::push_conclusions;
 use crate::falls::push_zeros;
+use crate::kind::RankKind;
 use crate::offset::{choice_at, conclusions_of, move_at, point_conclusions, step_at};
 use crate::points::{first_point, push_guards, push_point};
 use crate::propositions::push_edge_rows;
 use crate::rows::minus_one;
 use crate::table::Table;
 use layout::head::Head;
-use ranks::kind::RankKind;
 use sources::source::Source;
 
 // Pushes what lines are to show in mode 0: the row -1, then zero rows.

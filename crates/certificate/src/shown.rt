@@ -33,7 +33,7 @@ pub(crate) fn shown_hold<S: Source>(
     table: &mut Table,
 ) -> Result<(), AdmitFault>
     requires { counts_of head.now ≡ view.head (S.Source.cells source.now) }
-    ensures { result ≡ passed (admission.shown_trials (S.Source.cells source.now)) }
+    ensures { result ≡ passed (admission.row_trials (S.Source.cells source.now) 0 (admission.shown_rows (S.Source.cells source.now))) }
 {
     // a row's value is the constant of the row with each variable replaced by its value
     let variables = head.variables as usize;

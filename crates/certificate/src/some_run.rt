@@ -9,13 +9,13 @@ ghost use Rattle.certificate.specs.Outcomes.{passed};
 
 use crate::cells::number;
 use crate::judge::judge;
+use crate::kind::RankKind;
 use crate::moves::point_claims;
 use crate::offset::{choice_at, edge_at, point_line_at, points, step_at};
 use crate::points::push_point;
 use crate::table::Table;
 use dossier::fault::AdmitFault;
 use layout::head::Head;
-use ranks::kind::RankKind;
 use sources::source::Source;
 
 // Whether the choice of a point begins there. In mode 0 it need not.

@@ -8,7 +8,7 @@ use Rattle.dossier.specs.declared.fault.AdmitFault.TheVariants.{StartLine, MoveL
 use Rattle.dossier.specs.Rows.{Row, holds}
 use Rattle.dossier.specs.Dossier.{head, start_row, step_from, guard, start_point, start_line_at, point_of, move_mode, move_line_at, move_hypotheses}
 use Rattle.dossier.specs.Kinds.{Kind, Lawful}
-use Rattle.dossier.specs.Runs.{Situation, Open, Can, Move, Start, Reached, begins, goes_on, Endless, EveryRunLaw, letter, point}
+use Rattle.dossier.specs.Runs.{Situation, Open, Can, Move, Start, Reached, begins, goes_on, Endless, EveryRunLaw, WatchFollows, letter, point}
 use Rattle.dossier.specs.Admission.{Trial, every_run_trials, lines, start_hypotheses, start_conclusions, point_hypotheses, guard_rows, edge_row, edge_rows, first_point, move_hypotheses_of, move_conclusions, in_mode}
 use Rattle.dossier.specs.Laws.{AllPass, AllHold}
 use Rattle.dossier.specs.Ranges.{EveryRunRanges, ProgramRanges}
@@ -32,7 +32,7 @@ module _ (kind : Kind) (lawful : Lawful kind) (cells : List ℤ) (formed : well_
 
   -- the lines of a move, by its number and by its step and edge
   abbrev trials_of : ℕ → ℕ → ℕ → List Trial
-  trials_of m t e = lines cells (move_line_at (head cells) m) (move_hypotheses (head cells)) (move_hypotheses_of cells t e) (MoveLine m)
+  trials_of m t e = lines cells (move_line_at (head cells) m) (move_hypotheses (head cells)) (move_hypotheses_of cells t e) (MoveLine m) 0
       (in_mode (move_mode cells m) (conclusions (head cells)) (move_conclusions cells kind (move_mode cells m) t e))
 
   step_edge_pass : (t e : ℕ) → t < (head cells).steps → e < (head cells).edges → AllPass (trials_of (t * (head cells).edges + e) t e)
@@ -53,11 +53,11 @@ module _ (kind : Kind) (lawful : Lawful kind) (cells : List ℤ) (formed : well_
   hypotheses_hold : (t e : ℕ) (s : Situation) → Can cells t e s → Sound cells s → AllHold (move_hypotheses_of cells t e) s.values
   hypotheses_hold t e s can sound =
       append_hold (point_hypotheses cells (first_point cells t e)) (guard_rows cells t ++ edge_rows cells e (step_from cells t)) s.values
-      (subst (λ p. AllHold (point_hypotheses cells p) s.values) (sym (ap₂ (point_of cells) can.opened.step_here can.edge_here)) (within_rows cells s sound.within))
+      (subst (λ p. AllHold (point_hypotheses cells p) s.values) (sym (ap₂ (point_of cells) can.step_here can.edge_here)) (within_rows cells s sound.within))
       (append_hold (guard_rows cells t) (edge_rows cells e (step_from cells t)) s.values
-      (each_hold (head cells).guards (guard cells t) s.values can.opened.guarded)
+      (each_hold (head cells).guards (guard cells t) s.values can.guarded)
       (each_hold (head cells).propositions (edge_row cells e (step_from cells t)) s.values
-      (subst (λ p. (i : ℕ) → i < (head cells).propositions → T (holds (edge_row cells e p i) s.values)) (sym can.opened.step_here)
+      (subst (λ p. (i : ℕ) → i < (head cells).propositions → T (holds (edge_row cells e p i) s.values)) (sym can.step_here)
       (matching_holds cells s.values s.place e can.matching))))
 
   went : (s s' : Situation) → Sound cells s → Move cells s s' → Moved cells kind s s'
@@ -66,16 +66,16 @@ module _ (kind : Kind) (lawful : Lawful kind) (cells : List ℤ) (formed : well_
       let e : ℕ = move.edge in
       let can : Can cells t e s = move.can in
       let m : ℕ = t * (head cells).edges + e in
-      let below : m < (head cells).steps * (head cells).edges = digits_lt can.opened.step_is can.edge_is in
+      let below : m < (head cells).steps * (head cells).edges = digits_lt can.step_is can.edge_is in
       let rows : List Row = move_conclusions cells kind (move_mode cells m) t e in
       let all : AllHold (in_mode (move_mode cells m) (conclusions (head cells)) rows) s.values =
       lines_hold cells (move_line_at (head cells) m) (move_hypotheses (head cells)) (move_hypotheses_of cells t e) (MoveLine m) s.values sound.sized
       (hypotheses_hold t e s can sound) (conclusions (head cells)) (in_mode (move_mode cells m) (conclusions (head cells)) rows)
       (length_in_mode (move_mode cells m) (conclusions (head cells)) rows (length_conclusions cells kind (move_mode cells m) t e))
-      (λ j l. ranges.move_lines m j below l) (step_edge_pass t e can.opened.step_is can.edge_is) in
+      (λ j l. ranges.move_lines m j below l) (step_edge_pass t e can.step_is can.edge_is) in
       let p = in_mode_rows (move_mode cells m) (conclusions (head cells)) rows s.values (omega (arith, program.counts_in.rank_numbers_low)) all in
       subst (Moved cells kind s) (sym move.leads)
-      (moved kind lawful cells parts.called.1 (move_mode cells m) t e s can.opened.step_here can.edge_here sound p.1 p.0 (ranges.modes m below))
+      (moved kind lawful cells parts.called.1 (move_mode cells m) t e s can.step_here can.edge_here sound p.1 p.0 (ranges.modes m below))
 
   reached_sound : (s : Situation) → Reached cells s → Sound cells s
   reached_sound s (begins st) = started s st
@@ -89,16 +89,18 @@ module _ (kind : Kind) (lawful : Lawful kind) (cells : List ℤ) (formed : well_
   followed_by : (s : Situation) → Reached cells s → (t : ℕ) → Open cells t s → (e : ℕ) × Can cells t e s
   followed_by s reached t may =
       let (e, is, here, fits) = parts.watched s.state (letter cells s.place s.values) (reached_state s reached) (letter_low cells s.place s.values (head cells).propositions) in
-      (e, record { opened = may; edge_is = is; edge_here = here; matching = fits })
+      (e, record { step_is = may.step_is; step_here = may.step_here; guarded = may.guarded; edge_is = is; edge_here = here; matching = fits })
 
   run_sound : (run : ℕ → Situation) → Endless cells run → (i : ℕ) → Sound cells (run i)
   run_sound run endless zero = started (run 0) endless.begins
   run_sound run endless (suc i) = subst (λ j. Sound cells (run j)) (add-one i) (went (run i) (run (i + 1)) (run_sound run endless i) (endless.goes_on i)).sound
 
+  pub watch_follows : WatchFollows cells
+  watch_follows = followed_by
+
   pub every_run : EveryRunLaw cells
   every_run = record {
     watched = parts.watched;
-    follows = followed_by;
     within = λ s r. (reached_sound s r).within;
     recurs = λ run endless. marked_later kind lawful cells parts.called.1 run (run_sound run endless)
         (λ i. (went (run i) (run (i + 1)) (run_sound run endless i) (endless.goes_on i)).falls);

@@ -8,7 +8,7 @@ use Rattle.layout.proofs.Count.{both_left, both_right, both_from}
 use Rattle.dossier.specs.declared.fall.Fall.{Fall}
 use Rattle.dossier.specs.declared.fall.Fall.TheVariants.{None, Keeps, Drops}
 use Rattle.dossier.specs.Kinds.{Rank, Outside, Inside, fall_value, lower, fall_of, by_first_difference}
-use Rattle.dossier.specs.Laws.{KindsLaw}
+use Rattle.dossier.specs.Laws.{KindsLaw, OutsideLaw}
 
 abbrev head : List ℤ → ℤ
 head xs = get_or xs 0 (pos 0)
@@ -160,4 +160,7 @@ fall_outside n mode i (inr (inr l)) = ap (λ b. cond b (called mode i) None) (ap
     nothing false = refl
 
 pub kinds_law : KindsLaw
-kinds_law n = record { outside = fall_outside n; inside = fall_inside n; steps_down = steps_lower n; ends = ends n }
+kinds_law n = record { inside = fall_inside n; steps_down = steps_lower n; ends = ends n }
+
+pub outside_law : OutsideLaw
+outside_law n = fall_outside n

@@ -1,6 +1,7 @@
 pub mod CellRanges
 pub mod EdgeRows
 pub mod EveryRun
+pub mod InOrder
 pub mod Integers
 pub mod KindsLaw
 pub mod LineCount
@@ -14,3 +15,4 @@ pub mod Standing
 pub mod Tests
 pub mod Trials
 pub mod Worked
+pub mod WorkedTable

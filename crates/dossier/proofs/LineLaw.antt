@@ -10,7 +10,7 @@ use Rattle.dossier.specs.Rows.{Row, dot, value, holds, zero_row, sum_to, constan
 use Rattle.dossier.specs.Dossier.{head, cell}
 use Rattle.dossier.specs.Kinds.{NonNegative}
 use Rattle.dossier.specs.Lines.{sums, same, coefficients_agree, constant_suffices}
-use Rattle.dossier.specs.Admission.{numbered, line_trial, lines}
+use Rattle.dossier.specs.Admission.{lines}
 use Rattle.dossier.specs.Laws.{AllPass, AllHold, LineLaw}
 use Rattle.dossier.specs.Ranges.{Line}
 use Rattle.dossier.proofs.Integers.{0≤-+ℤ, 0≤-*ℤ, 0≤-cancel}
@@ -54,7 +54,7 @@ above_one : (d : ℤ) → T (le_z (pos 1) d) → T (lt_z (pos 0) d)
 above_one d h = grind (arith)
 
 module _ (cells : List ℤ) (at : ℕ → ℕ) (n : ℕ) (hs : List Row) (named : ℕ → AdmitFault) (xs : List ℤ) (sized : length xs ≡ (head cells).variables) (given : AllHold hs xs) where
-  lines_hold_from : (k : ℕ) (cs : List Row) → AllPass (numbered (line_trial cells at n hs named) k cs) → ((j : ℕ) → k ≤ j → j < k + length cs → Line cells (at j) n) → AllHold cs xs
+  lines_hold_from : (k : ℕ) (cs : List Row) → AllPass (lines cells at n hs named k cs) → ((j : ℕ) → k ≤ j → j < k + length cs → Line cells (at j) n) → AllHold cs xs
   lines_hold_from k [] h r = tt
   lines_hold_from k (c ∷ cs) h r =
       let here : Line cells (at k) n = r k (omega arith) (omega arith) in
@@ -64,7 +64,7 @@ module _ (cells : List ℤ) (at : ℕ → ℕ) (n : ℕ) (hs : List Row) (named 
       )
 
   -- where every line passes, the hypotheses give every conclusion
-  pub lines_hold : (count : ℕ) (cs : List Row) → length cs ≡ count → ((j : ℕ) → j < count → Line cells (at j) n) → AllPass (lines cells at n hs named cs) → AllHold cs xs
+  pub lines_hold : (count : ℕ) (cs : List Row) → length cs ≡ count → ((j : ℕ) → j < count → Line cells (at j) n) → AllPass (lines cells at n hs named 0 cs) → AllHold cs xs
   lines_hold count cs e r h = lines_hold_from 0 cs h (λ j l u. r j (omega arith))
 
 -- rows taken at a step ----------------------------------------------------------------------------

@@ -9,7 +9,7 @@ use Rattle.dossier.specs.declared.fault.AdmitFault.TheVariants.{PointLine}
 use Rattle.dossier.specs.Rows.{Row, holds}
 use Rattle.dossier.specs.Dossier.{head, start_row, step_from, guard, edge_from, shown, choice_mode, choice_step, choice_edge, points, point_line_at, point_conclusions}
 use Rattle.dossier.specs.Kinds.{Kind, Lawful}
-use Rattle.dossier.specs.Runs.{Situation, Can, Start, SomeRunLaw, point, marked, rank, after, shown_start, followed, marked_below}
+use Rattle.dossier.specs.Runs.{Situation, Can, Start, Endless, SomeRunLaw, point, marked, rank, after, shown_start, followed, marked_below}
 use Rattle.dossier.specs.Admission.{some_run_trials, choice_trials, choice_conclusions, shown_values, point_hypotheses, guard_rows, edge_row, edge_rows, move_conclusions, in_mode}
 use Rattle.dossier.specs.Laws.{AllPass, AllHold}
 use Rattle.dossier.specs.Ranges.{SomeRunRanges, ProgramRanges}
@@ -103,7 +103,9 @@ module _ (kind : Kind) (lawful : Lawful kind) (cells : List ℤ) (formed : well_
       record {
         mode_low = in_mode.0;
         can = record {
-          opened = record { step_is = ranges.steps p below; step_here = step_here; guarded = hold_each (head cells).guards (guard cells t) xs guarded.0 };
+          step_is = ranges.steps p below;
+          step_here = step_here;
+          guarded = hold_each (head cells).guards (guard cells t) xs guarded.0;
           edge_is = ranges.edges p below;
           edge_here = edge_here;
           matching = holding_matches cells xs s.place e (program.must e (ranges.edges p below)) (program.must_not e (ranges.edges p below)) (program.apart e (ranges.edges p below))
@@ -122,7 +124,7 @@ module _ (kind : Kind) (lawful : Lawful kind) (cells : List ℤ) (formed : well_
   stands (suc i) =
       let c = choose (followed cells i) (stands i) in
       record {
-        place_below = program.step_to (choice_step cells (point cells (followed cells i))) c.can.opened.step_is;
+        place_below = program.step_to (choice_step cells (point cells (followed cells i))) c.can.step_is;
         state_below = program.edge_to (choice_edge cells (point cells (followed cells i))) c.can.edge_is;
         sound = c.goes.sound;
       }
@@ -130,18 +132,20 @@ module _ (kind : Kind) (lawful : Lawful kind) (cells : List ℤ) (formed : well_
   chosen : (i : ℕ) → Chosen (followed cells i)
   chosen i = choose (followed cells i) (stands i)
 
+  pub followed_endless : Endless cells (followed cells)
+  followed_endless = record {
+    begins = started;
+    goes_on = λ i. record {
+      step = choice_step cells (point cells (followed cells i));
+      edge = choice_edge cells (point cells (followed cells i));
+      can = (chosen i).can;
+      leads = ap (followed cells) (add-one i);
+    };
+  }
+
   pub some_run : SomeRunLaw cells
   some_run = record {
     starts = started;
-    runs = record {
-      begins = started;
-      goes_on = λ i. record {
-        step = choice_step cells (point cells (followed cells i));
-        edge = choice_edge cells (point cells (followed cells i));
-        can = (chosen i).can;
-        leads = ap (followed cells) (add-one i);
-      };
-    };
     chosen = λ i e. omega (arith, (chosen i).mode_low);
     can = λ i. (chosen i).can;
     within = λ i. (stands i).sound.within;

@@ -11,10 +11,11 @@ use Rattle.dossier.specs.declared.fault.AdmitFault.TheVariants.{NoEdge, StartLin
 use Rattle.dossier.specs.Rows.{Row, zero_row, each}
 use Rattle.dossier.specs.Dossier.{head, start_row, region_row, rank_row, start_point, start_line_at, move_line_at, move_hypotheses, edge_from, points, point_line_at, point_conclusions, move_mode, choice_mode, choice_step, choice_edge}
 use Rattle.dossier.specs.Kinds.{Kind}
-use Rattle.dossier.specs.Runs.{Goes_on, matches}
+use Rattle.dossier.specs.Runs.{GoesOn, matches}
 use Rattle.dossier.specs.Admission
 use Rattle.dossier.specs.Laws.{AllPass, AllHold, EveryRunTests, SomeRunTests, FirstFailing}
 use Rattle.dossier.proofs.Trials.{of_true, both_equal, none_fails, all_passed, verdict_ok, verdict_err, append_passes, first_fails, pass_append, append_pass, pass_joined, joined_pass, pass_each, each_pass, hold_append, append_hold, hold_each, each_hold, length_each}
+use Rattle.dossier.proofs.InOrder.{moves_in_order}
 use Rattle.dossier.proofs.Moves.{length_in_mode, length_conclusions}
 
 -- lines -------------------------------------------------------------------------------------------
@@ -24,12 +25,12 @@ module _ (cells : List ℤ) (at : ℕ → ℕ) (n : ℕ) (hs : List Row) (named 
   abbrev Holds : ℕ → List Row → ℕ → Type 0
   Holds k cs j = T (Admission.line_at cells (at (k + j)) n hs (get_or cs j zero_row))
 
-  each_line_from : (k : ℕ) (cs : List Row) → AllPass (Admission.numbered (Admission.line_trial cells at n hs named) k cs) → (j : ℕ) → j < length cs → Holds k cs j
+  each_line_from : (k : ℕ) (cs : List Row) → AllPass (Admission.lines cells at n hs named k cs) → (j : ℕ) → j < length cs → Holds k cs j
   each_line_from k [] h j l = absurd (omega arith)
   each_line_from k (c ∷ cs) h zero l = subst (λ i. T (Admission.line_at cells (at i) n hs c)) (sym (add-zero k)) h.0
   each_line_from k (c ∷ cs) h (suc j) l = subst (λ i. T (Admission.line_at cells (at i) n hs (get_or cs j zero_row))) (omega arith) (each_line_from (suc k) cs h.1 j (omega arith))
 
-  lines_from : (k : ℕ) (cs : List Row) → ((j : ℕ) → j < length cs → Holds k cs j) → AllPass (Admission.numbered (Admission.line_trial cells at n hs named) k cs)
+  lines_from : (k : ℕ) (cs : List Row) → ((j : ℕ) → j < length cs → Holds k cs j) → AllPass (Admission.lines cells at n hs named k cs)
   lines_from k [] h = tt
   lines_from k (c ∷ cs) h = (
     subst (λ i. T (Admission.line_at cells (at i) n hs c)) (add-zero k) (h 0 (omega arith)),
@@ -37,10 +38,10 @@ module _ (cells : List ℤ) (at : ℕ → ℕ) (n : ℕ) (hs : List Row) (named 
   )
 
   module _ (count : ℕ) (cs : List Row) (e : length cs ≡ count) where
-    pub each_line : AllPass (Admission.lines cells at n hs named cs) → (k : ℕ) → k < count → T (Admission.line_at cells (at k) n hs (get_or cs k zero_row))
+    pub each_line : AllPass (Admission.lines cells at n hs named 0 cs) → (k : ℕ) → k < count → T (Admission.line_at cells (at k) n hs (get_or cs k zero_row))
     each_line h k l = subst (λ i. T (Admission.line_at cells (at i) n hs (get_or cs k zero_row))) (zero-add k) (each_line_from 0 cs h k (omega arith))
 
-    pub all_lines : ((k : ℕ) → k < count → T (Admission.line_at cells (at k) n hs (get_or cs k zero_row))) → AllPass (Admission.lines cells at n hs named cs)
+    pub all_lines : ((k : ℕ) → k < count → T (Admission.line_at cells (at k) n hs (get_or cs k zero_row))) → AllPass (Admission.lines cells at n hs named 0 cs)
     all_lines h = lines_from 0 cs (λ k l. subst (λ i. T (Admission.line_at cells (at i) n hs (get_or cs k zero_row))) (sym (zero-add k)) (h k (omega arith)))
 
 -- the edge that goes on from a state with a letter --------------------------------------------------
@@ -71,10 +72,10 @@ module _ (cells : List ℤ) (q l : ℕ) where
         (⊎_elim (λ same. absurd (subst T not (subst (λ j. T (goes j)) (sym same) h))) (λ apart. edge_found n (suc e) i (omega arith) (omega arith) h) (cases_eq e i))
   ]
 
-  goes_on : T (Admission.found (Admission.edge_for cells q l)) → Goes_on cells q l
+  goes_on : T (Admission.found (Admission.edge_for cells q l)) → GoesOn cells q l
   goes_on h = subst Edge (zero-add (head cells).edges) (found_edge (head cells).edges 0 h)
 
-  gone_on : Goes_on cells q l → T (Admission.found (Admission.edge_for cells q l))
+  gone_on : GoesOn cells q l → T (Admission.found (Admission.edge_for cells q l))
   gone_on (e, below, from, fits) = edge_found (head cells).edges 0 e (omega arith) (omega arith) (both_from _ _ (of_true _ (eq-eqb _ _ from)) fits)
 
 -- the parts of the tests ----------------------------------------------------------------------------
@@ -101,17 +102,17 @@ module _ (cells : List ℤ) where
         let e = choice_edge cells p in
         length_in_mode mode (point_conclusions (head cells)) (Admission.choice_conclusions cells kind mode t e) (length_choice mode t e)
 
-  both_called : (form numbers : ℕ) → (head cells).form ≡ form → (head cells).rank_numbers ≡ numbers → T (Admission.called_for (head cells) form numbers).passes
+  both_called : (form numbers : ℕ) → (head cells).form ≡ form → (head cells).rank_numbers ≡ numbers → T (Admission.called_for cells form numbers).passes
   both_called form numbers p q = both_from _ _ (of_true _ (eq-eqb _ _ p)) (of_true _ (eq-eqb _ _ q))
 
   abbrev letter_trial : ℕ → ℕ → Admission.Trial
   letter_trial q l = record { passes = Admission.found (Admission.edge_for cells q l); fault = NoEdge q l }
 
-  row_trials_hold : (i : ℕ) (rs : List Row) → AllPass (Admission.numbered (Admission.row_trial cells) i rs) → AllHold rs (Admission.shown_values cells)
+  row_trials_hold : (i : ℕ) (rs : List Row) → AllPass (Admission.row_trials cells i rs) → AllHold rs (Admission.shown_values cells)
   row_trials_hold i [] h = tt
   row_trials_hold i (r ∷ rs) h = (h.0, row_trials_hold (suc i) rs h.1)
 
-  hold_row_trials : (i : ℕ) (rs : List Row) → AllHold rs (Admission.shown_values cells) → AllPass (Admission.numbered (Admission.row_trial cells) i rs)
+  hold_row_trials : (i : ℕ) (rs : List Row) → AllHold rs (Admission.shown_values cells) → AllPass (Admission.row_trials cells i rs)
   hold_row_trials i [] h = tt
   hold_row_trials i (r ∷ rs) h = (h.0, hold_row_trials (suc i) rs h.1)
 
@@ -119,13 +120,13 @@ module _ (cells : List ℤ) where
 
 module _ (kind : Kind) (cells : List ℤ) where
   abbrev all_moves : List Admission.Trial
-  all_moves = flat_map (Admission.move_trials cells kind) (each (Admission.moves cells) (λ m. m))
+  all_moves = flat_map (λ t. flat_map (λ e. Admission.move_trials cells kind t e) (each (head cells).edges (λ e. e))) (each (head cells).steps (λ t. t))
 
   pub record EveryRunParts : Type 0 where
     pub called : ((head cells).form ≡ 1) × ((head cells).rank_numbers ≡ kind.numbers)
-    pub watched : (q l : ℕ) → q < (head cells).states → l < 2 ^ (head cells).propositions → Goes_on cells q l
+    pub watched : (q l : ℕ) → q < (head cells).states → l < 2 ^ (head cells).propositions → GoesOn cells q l
     pub start : AllPass (Admission.start_trials cells)
-    pub moves : (m : ℕ) → m < Admission.moves cells → AllPass (Admission.move_trials cells kind m)
+    pub moves : (m : ℕ) → m < Admission.moves cells → AllPass (Admission.trials_of_move cells kind m)
 
   pub every_run_parts : AllPass (Admission.every_run_trials cells kind) → EveryRunParts
   every_run_parts pass =
@@ -136,7 +137,7 @@ module _ (kind : Kind) (cells : List ℤ) where
         watched = λ q l h k. goes_on cells q l
             (pass_each (2 ^ (head cells).propositions) (letter_trial cells q) (pass_joined (Admission.state_trials cells) (head cells).states behind.0 q h) l k);
         start = parts.0;
-        moves = pass_joined (Admission.move_trials cells kind) (Admission.moves cells) parts.1;
+        moves = pass_joined (Admission.trials_of_move cells kind) (Admission.moves cells) (subst AllPass (moves_in_order kind cells) parts.1);
       }
 
   pub every_run_each : AllPass (Admission.every_run_trials cells kind) → EveryRunTests kind cells
@@ -161,9 +162,9 @@ module _ (kind : Kind) (cells : List ℤ) where
         (append_pass (Admission.start_trials cells) all_moves
         (all_lines cells (start_line_at (head cells)) (head cells).start_rows (Admission.start_hypotheses cells) StartLine
         (point_rows (head cells)) (Admission.start_conclusions cells) (length_start cells) t.start_lines)
-        (joined_pass (Admission.move_trials cells kind) (Admission.moves cells) (λ m h.
+        (subst AllPass (sym (moves_in_order kind cells)) (joined_pass (Admission.trials_of_move cells kind) (Admission.moves cells) (λ m h.
         all_lines cells (move_line_at (head cells) m) (move_hypotheses (head cells)) (Admission.move_hypotheses_of cells (Admission.move_step cells m) (Admission.move_edge cells m)) (MoveLine m)
-        (conclusions (head cells)) (Admission.move_claims cells kind m) (length_move_claims cells kind m) (λ k l. t.move_lines m k h l)))),
+        (conclusions (head cells)) (Admission.move_claims cells kind m) (length_move_claims cells kind m) (λ k l. t.move_lines m k h l))))),
   )
 
 -- some-run form -------------------------------------------------------------------------------------
@@ -186,7 +187,7 @@ module _ (kind : Kind) (cells : List ℤ) where
 
   pub some_run_parts : AllPass (Admission.some_run_trials cells kind) → SomeRunParts
   some_run_parts pass =
-      let parts = pass_append (Admission.shown_trials cells) all_points pass.1 in
+      let parts = pass_append (Admission.row_trials cells 0 (Admission.shown_rows cells)) all_points pass.1 in
       let shown = hold_append (Admission.start_hypotheses cells) (Admission.point_hypotheses cells (start_point cells)) (Admission.shown_values cells) (row_trials_hold cells 0 (Admission.shown_rows cells) parts.0) in
       record {
         called = both_equal (head cells).form 2 (head cells).rank_numbers kind.numbers pass.0;
@@ -217,7 +218,7 @@ module _ (kind : Kind) (cells : List ℤ) where
   some_run_all t =
       let xs = Admission.shown_values cells in (
         both_called cells 2 kind.numbers t.form t.numbers,
-        append_pass (Admission.shown_trials cells) all_points
+        append_pass (Admission.row_trials cells 0 (Admission.shown_rows cells)) all_points
             (hold_row_trials cells 0 (Admission.shown_rows cells)
             (append_hold (Admission.start_hypotheses cells) (Admission.point_hypotheses cells (start_point cells)) xs
             (each_hold (head cells).start_rows (start_row cells) xs t.starts)

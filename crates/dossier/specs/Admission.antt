@@ -24,11 +24,6 @@ abbrev pub verdict : ℕ → Option AdmitFault → Result ℕ AdmitFault
 verdict lines None = Ok lines
 verdict lines (Some fault) = Err fault
 
--- a test for each element of a list, with its number
-abbrev pub numbered : {A : Type 0} → (ℕ → A → Trial) → ℕ → List A → List Trial
-numbered trial k [] = []
-numbered trial k (x ∷ xs) = trial k x ∷ numbered trial (suc k) xs
-
 -- a demand on the place: the zero row where it is met, else the row −1
 abbrev pub demand : Bool → Row
 demand true = zero_row
@@ -43,8 +38,8 @@ abbrev pub in_mode : ℕ → ℕ → List Row → List Row
 in_mode mode n rows = cond (mode == 0) (impossible n) rows
 
 -- form and count of rank numbers are those called for
-abbrev pub called_for : Counts → ℕ → ℕ → Trial
-called_for h form numbers = record { passes = both (h.form == form) (h.rank_numbers == numbers); fault = Other h.form h.rank_numbers }
+abbrev pub called_by : Counts → ℕ → ℕ → Trial
+called_by h form numbers = record { passes = both (h.form == form) (h.rank_numbers == numbers); fault = Other h.form h.rank_numbers }
 
 abbrev pub found : Option ℕ → Bool
 found None = false
@@ -127,13 +122,14 @@ module _ (cells : List ℤ) where
   line_at i n hypotheses conclusion = line_holds (head cells).variables (cell cells i) (each n (λ k. cell cells (i + 1 + k))) hypotheses conclusion
 
   -- conclusions in order, each with its line: `at` tells where a line stands and `named` its fault
-  abbrev pub line_trial : (ℕ → ℕ) → ℕ → List Row → (ℕ → AdmitFault) → ℕ → Row → Trial
-  line_trial at n hypotheses named k c = record { passes = line_at (at k) n hypotheses c; fault = named k }
-
-  abbrev pub lines : (ℕ → ℕ) → ℕ → List Row → (ℕ → AdmitFault) → List Row → List Trial
-  lines at n hypotheses named cs = numbered (line_trial at n hypotheses named) 0 cs
+  abbrev pub lines : (ℕ → ℕ) → ℕ → List Row → (ℕ → AdmitFault) → ℕ → List Row → List Trial
+  lines at n hypotheses named k [] = []
+  lines at n hypotheses named k (c ∷ cs) = record { passes = line_at (at k) n hypotheses c; fault = named k } ∷ lines at n hypotheses named (suc k) cs
 
   -- the tests of each form ---------------------------------------------------------------------
+
+  abbrev pub called_for : ℕ → ℕ → Trial
+  called_for form numbers = record { passes = both ((head cells).form == form) ((head cells).rank_numbers == numbers); fault = Other (head cells).form (head cells).rank_numbers }
 
   -- the lowest-numbered edge from a state that matches a letter
   abbrev pub edge_from_on : ℕ → ℕ → ℕ → ℕ → Option ℕ
@@ -158,33 +154,40 @@ module _ (cells : List ℤ) where
   start_line k = line_at (start_line_at (head cells) k) (head cells).start_rows start_hypotheses (slice_index_or start_conclusions k zero_row)
 
   abbrev pub start_trials : List Trial
-  start_trials = lines (start_line_at (head cells)) (head cells).start_rows start_hypotheses StartLine start_conclusions
+  start_trials = lines (start_line_at (head cells)) (head cells).start_rows start_hypotheses StartLine 0 start_conclusions
 
   -- line k of move m
   abbrev pub move_line : Kind → ℕ → ℕ → Bool
   move_line kind m k = line_at (move_line_at (head cells) m k) (move_hypotheses (head cells)) (move_hypotheses_of (move_step m) (move_edge m)) (slice_index_or (move_claims kind m) k zero_row)
 
-  abbrev pub move_trials : Kind → ℕ → List Trial
-  move_trials kind m = lines (move_line_at (head cells) m) (move_hypotheses (head cells)) (move_hypotheses_of (move_step m) (move_edge m)) (MoveLine m) (move_claims kind m)
+  abbrev pub move_trials : Kind → ℕ → ℕ → List Trial
+  move_trials kind t e =
+      let m : ℕ = t * (head cells).edges + e in
+      lines (move_line_at (head cells) m) (move_hypotheses (head cells)) (move_hypotheses_of t e) (MoveLine m) 0
+      (in_mode (move_mode cells m) (conclusions (head cells)) (move_conclusions kind (move_mode cells m) t e))
+
+  -- the same by the number of the move
+  abbrev pub trials_of_move : Kind → ℕ → List Trial
+  trials_of_move kind m = lines (move_line_at (head cells) m) (move_hypotheses (head cells)) (move_hypotheses_of (move_step m) (move_edge m)) (MoveLine m) 0 (move_claims kind m)
 
   abbrev pub moves : ℕ
   moves = (head cells).steps * (head cells).edges
 
   abbrev pub every_run_trials : Kind → List Trial
-  every_run_trials kind = called_for (head cells) 1 kind.numbers ∷ watch_trials ++ (start_trials ++ flat_map (move_trials kind) (each moves (λ m. m)))
+  every_run_trials kind =
+      called_for 1 kind.numbers ∷ watch_trials ++ (start_trials ++
+      flat_map (λ t. flat_map (λ e. move_trials kind t e) (each (head cells).edges (λ e. e))) (each (head cells).steps (λ t. t)))
 
   abbrev pub shown_values : List ℤ
   shown_values = each (head cells).variables (shown cells)
 
-  abbrev pub row_trial : ℕ → Row → Trial
-  row_trial i r = record { passes = holds r shown_values; fault = Shown i }
+  abbrev pub row_trials : ℕ → List Row → List Trial
+  row_trials i [] = []
+  row_trials i (r ∷ rs) = record { passes = holds r shown_values; fault = Shown i } ∷ row_trials (suc i) rs
 
   -- the rows that the shown values are to satisfy
   abbrev pub shown_rows : List Row
   shown_rows = start_hypotheses ++ point_hypotheses (start_point cells)
-
-  abbrev pub shown_trials : List Trial
-  shown_trials = numbered row_trial 0 shown_rows
 
   -- whether the choice of a point begins there; in mode 0 it need not
   abbrev pub step_begins : ℕ → Bool
@@ -201,17 +204,26 @@ module _ (cells : List ℤ) where
   begin_trials p = record { passes = step_begins p; fault = StepElsewhere p } ∷ record { passes = edge_begins p; fault = EdgeElsewhere p } ∷ []
 
   abbrev pub point_trials : Kind → ℕ → List Trial
-  point_trials kind p = lines (point_line_at (head cells) p) (point_rows (head cells)) (point_hypotheses p) (PointLine p) (point_claims kind p)
+  point_trials kind p = lines (point_line_at (head cells) p) (point_rows (head cells)) (point_hypotheses p) (PointLine p) 0 (point_claims kind p)
 
   abbrev pub choice_trials : Kind → ℕ → List Trial
-  choice_trials kind p = begin_trials p ++ point_trials kind p
+  choice_trials kind p =
+      let t : ℕ = choice_step cells p in
+      let e : ℕ = choice_edge cells p in
+      let mode : ℕ = choice_mode cells p in
+      record { passes = cond (mode == 0) true (step_from cells t == p / (head cells).states); fault = StepElsewhere p } ∷
+      record { passes = cond (mode == 0) true (edge_from cells e == p % (head cells).states); fault = EdgeElsewhere p } ∷
+      lines (point_line_at (head cells) p) (point_rows (head cells)) (point_hypotheses p) (PointLine p) 0
+      (in_mode mode (point_conclusions (head cells)) (guard_rows t ++ (edge_rows e (step_from cells t) ++ move_conclusions kind mode t e)))
 
   abbrev pub some_run_trials : Kind → List Trial
-  some_run_trials kind = called_for (head cells) 2 kind.numbers ∷ shown_trials ++ flat_map (choice_trials kind) (each (points (head cells)) (λ p. p))
+  some_run_trials kind =
+      called_for 2 kind.numbers ∷ row_trials 0 (start_hypotheses ++ point_hypotheses (start_point cells)) ++
+      flat_map (choice_trials kind) (each (points (head cells)) (λ p. p))
 
   -- how many proof lines a full admission judges
   abbrev pub every_run_lines : ℕ
-  every_run_lines = point_rows (head cells) + moves * conclusions (head cells)
+  every_run_lines = point_rows (head cells) + (head cells).steps * (head cells).edges * conclusions (head cells)
 
   abbrev pub some_run_lines : ℕ
   some_run_lines = points (head cells) * point_conclusions (head cells)

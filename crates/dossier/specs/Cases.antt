@@ -1,63 +1,44 @@
--- The worked cases that are theorems: the run-down sheet and its neighbours, a line, the fall rows of the rank kinds. One table, one statement.
-use Rattle.std.specs.Prelude.{◌≡◌, ℕ, zero, suc, ◌+◌, Bool, true, false, List, [], ◌∷◌, ◌++◌, map, drop, ℤ, pos, negsuc, Some, None, Ok, Err, codes, Option, Result, slice_set}
-use Rattle.layout.specs.declared.fault.ReadFault.{ReadFault}
+-- The run-down dossier and its neighbours: the worked cases about admission that are theorems.
+use Rattle.std.specs.Prelude.{◌≡◌, ℕ, zero, suc, true, false, List, [], ◌∷◌, ℤ, pos, negsuc, Ok, Err, Result, slice_set}
 use Rattle.layout.specs.declared.fault.Refusal.{Refusal}
-use Rattle.layout.specs.Cases as reading
-use Rattle.layout.specs.Cells.{head_width}
-use Rattle.layout.specs.Reading.{read_text}
-use Rattle.layout.specs.Refusals.{refused, told, read_refusal}
-use Rattle.dossier.specs.declared.fall.Fall.{Fall}
-use Rattle.dossier.specs.declared.fall.Fall.TheVariants.{None as NoFall, Keeps, Drops}
+use Rattle.layout.specs.Cases.{run_down_cells}
+use Rattle.layout.specs.Refusals.{refused, told}
 use Rattle.dossier.specs.Admission.{admit_every_run}
-use Rattle.dossier.specs.Kinds.{by_first_difference, fall_of}
+use Rattle.dossier.specs.Kinds.{by_first_difference}
 use Rattle.dossier.specs.Lines.{line_holds}
 use Rattle.dossier.specs.Refusals.{admit_refusal}
-use Rattle.dossier.specs.Parts.{named_parts}
-use Rattle.dossier.specs.Rows.{Row, each}
+use Rattle.dossier.specs.Rows.{Row}
 
-pub data Case : Type 0 where
-  -- a text, the cells handed over, and what reading answers
-  reads : List ℕ → ℕ → Result (List ℤ) Refusal → Case
-  -- a text, the count of rank numbers called for in the every-run form, and what admission answers to its cells
-  admits : List ℕ → ℕ → Result ℕ Refusal → Case
-  -- divisor, multiplier, hypothesis and conclusion of a line over one variable, and whether it holds
-  judges : ℤ → ℤ → Row → Row → Bool → Case
-  -- count of rank numbers, mode and index, and the fall row that is called for
-  calls : ℕ → ℕ → ℕ → Fall → Case
-  -- a list whose named parts, in the order of a sheet's lines, are its cells behind the head
-  names : List ℤ → Case
+-- the step leaves x as it is
+abbrev pub standing : List ℤ → List ℤ
+standing cells = slice_set cells 17 (pos 0)
 
--- what admission answers to the cells that were read
-abbrev pub judged : ℕ → Result (List ℤ) ReadFault → Option (Result ℕ Refusal)
-judged numbers (Ok cells) = Some (told admit_refusal (admit_every_run (by_first_difference numbers) cells))
-judged numbers (Err fault) = None
+-- the multiplier of the guard in the first line of the move is 2
+abbrev pub doubled : List ℤ → List ℤ
+doubled cells = slice_set cells 33 (pos 2)
 
-abbrev pub Answered : Case → Type 0
-Answered (reads text room answer) = told read_refusal (read_text text room) ≡ answer
-Answered (admits text numbers answer) = judged numbers (read_text text 37) ≡ Some answer
-Answered (judges d m h c answer) = line_holds 1 d (m ∷ []) (h ∷ []) c ≡ answer
-Answered (calls numbers mode i answer) = fall_of numbers mode i ≡ answer
-Answered (names cells) = named_parts cells ≡ drop head_width cells
+-- the watch state is marked
+abbrev pub recurring : List ℤ → List ℤ
+recurring cells = slice_set cells 21 (pos 1)
+
+-- a dossier, the count of rank numbers called for, and what admission answers
+pub record Case : Type 0 where
+  pub cells : List ℤ
+  pub numbers : ℕ
+  pub answer : Result ℕ Refusal
+
+abbrev pub admission_cases : List Case
+admission_cases =
+    record { cells = run_down_cells; numbers = 1; answer = Ok 3 } ∷
+    record { cells = run_down_cells; numbers = 2; answer = Err (refused 0x20 1 1) } ∷
+    record { cells = standing run_down_cells; numbers = 1; answer = Err (refused 0x23 0 1) } ∷
+    record { cells = doubled run_down_cells; numbers = 1; answer = Err (refused 0x23 0 0) } ∷
+    record { cells = recurring run_down_cells; numbers = 1; answer = Ok 3 } ∷
+    record { cells = recurring (standing run_down_cells); numbers = 1; answer = Ok 3 } ∷ []
 
 abbrev pub AllAnswered : List Case → Type 0
 AllAnswered [] = Unit {0}
-AllAnswered (c ∷ cs) = Answered c × AllAnswered cs
-
--- the run-down sheet with another line in place of line i, counted from 0
-abbrev pub with_line : ℕ → List ℕ → List (List ℕ) → List (List ℕ)
-with_line i line lines = slice_set lines i line
-
--- the step leaves x as it is
-abbrev pub standing : List (List ℕ) → List (List ℕ)
-standing lines = with_line 2 (codes "30000000000001") lines
-
--- the multiplier of the guard in the first line of the move is 2
-abbrev pub doubled : List (List ℕ) → List (List ℕ)
-doubled lines = with_line 9 (codes "72000000010000000000000002") lines
-
--- the watch state is marked
-abbrev pub recurring : List (List ℕ) → List (List ℕ)
-recurring lines = with_line 4 (codes "5001") lines
+AllAnswered (c ∷ cs) = (told admit_refusal (admit_every_run (by_first_difference c.numbers) c.cells) ≡ c.answer) × AllAnswered cs
 
 -- over one variable x: a constant and its coefficient
 abbrev pub over_x : ℤ → ℤ → Row
@@ -65,39 +46,10 @@ over_x constant coefficient zero = constant
 over_x constant coefficient (suc zero) = coefficient
 over_x constant coefficient (suc (suc j)) = pos 0
 
-abbrev pub reading_case : reading.Case → Case
-reading_case c = reads c.text c.room c.answer
-
--- a head with counts that differ, and numbers that differ behind it: each part is told from every other
-abbrev pub numbers_from : ℕ → ℕ → List ℤ
-numbers_from i n = each n (λ k. pos (i + k))
-
--- start rows, steps; a place proposition; states; then all the rest
-abbrev pub sample : ℕ → ℕ → List ℤ
-sample form rest =
-    pos 1 ∷ pos 2 ∷ pos 2 ∷ pos 1 ∷ pos 2 ∷ pos 3 ∷ pos 3 ∷ pos 2 ∷ pos 1 ∷ pos 0 ∷ pos 0 ∷ pos form ∷ pos 2 ∷
-    (numbers_from 20 22 ++ (pos 1 ∷ (numbers_from 50 3 ++ (pos 0 ∷ pos 1 ∷ numbers_from 60 rest))))
-
-abbrev pub worked_cases : List Case
-worked_cases =
-    map reading_case reading.reading_cases ++
-    admits reading.run_down_text 1 (Ok 3) ∷
-    admits reading.run_down_text 2 (Err (refused 0x20 1 1)) ∷
-    admits (reading.text_of (standing reading.run_down_lines)) 1 (Err (refused 0x23 0 1)) ∷
-    admits (reading.text_of (doubled reading.run_down_lines)) 1 (Err (refused 0x23 0 0)) ∷
-    admits (reading.text_of (recurring reading.run_down_lines)) 1 (Ok 3) ∷
-    admits (reading.text_of (recurring (standing reading.run_down_lines))) 1 (Ok 3) ∷
-    -- from 2x − 5 with divisor 2 and multiplier 1: x − 2 holds and x − 3 does not
-    judges (pos 2) (pos 1) (over_x (negsuc 4) (pos 2)) (over_x (negsuc 1) (pos 1)) true ∷
-    judges (pos 2) (pos 1) (over_x (negsuc 4) (pos 2)) (over_x (negsuc 2) (pos 1)) false ∷
-    -- one number; two numbers in modes 1 and 2
-    calls 1 1 0 (Drops 0) ∷
-    calls 2 1 0 (Drops 0) ∷
-    calls 2 1 1 NoFall ∷
-    calls 2 2 0 (Keeps 0) ∷
-    calls 2 2 1 (Drops 1) ∷
-    names (sample 1 264) ∷
-    names (sample 2 177) ∷ []
+-- from 2x − 5 with divisor 2 and multiplier 1: x − 2 holds and x − 3 does not
+pub record Halves : Type 0 where
+  pub near : line_holds 1 (pos 2) (pos 1 ∷ []) (over_x (negsuc 4) (pos 2) ∷ []) (over_x (negsuc 1) (pos 1)) ≡ true
+  pub far : line_holds 1 (pos 2) (pos 1 ∷ []) (over_x (negsuc 4) (pos 2) ∷ []) (over_x (negsuc 2) (pos 1)) ≡ false
 
 abbrev pub WorkedCases : Type 0
-WorkedCases = AllAnswered worked_cases
+WorkedCases = AllAnswered admission_cases × Halves

@@ -37,13 +37,7 @@ Inside n None = Unit {0}
 Inside n (Keeps k) = k < n
 Inside n (Drops k) = k < n
 
--- no mode, or no number of a rank
-abbrev pub Outside : ℕ → ℕ → ℕ → Type 0
-Outside numbers mode i = (mode ≡ 0) ⊎ ((numbers < mode) ⊎ (numbers ≤ i))
-
 pub record Lawful (kind : Kind) : Type 0 where
-  -- outside the modes, and beyond the numbers of a rank, a fall row is zero
-  pub outside : (mode i : ℕ) → Outside kind.numbers mode i → kind.fall mode i ≡ None
   -- the fall rows of a mode are of numbers that a rank has, and together give a fall
   pub inside : (mode i : ℕ) → Inside kind.numbers (kind.fall mode i)
   pub steps_down : (mode : ℕ) (old new : List ℤ) → 1 ≤ mode → mode ≤ kind.numbers → Rank kind old → Rank kind new → ((i : ℕ) → i < kind.numbers → T (int_le (pos 0) (fall_value (kind.fall mode i) old new))) → kind.falls old new
@@ -62,3 +56,11 @@ fall_of numbers mode i = cond (both (nat_le mode numbers) (nat_lt i numbers)) (c
 
 abbrev pub by_first_difference : ℕ → Kind
 by_first_difference n = record { numbers = n; falls = λ old new. T (lower old new); fall = fall_of n }
+
+-- no mode, or no number of a rank
+abbrev pub Outside : ℕ → ℕ → ℕ → Type 0
+Outside numbers mode i = (mode ≡ 0) ⊎ ((numbers < mode) ⊎ (numbers ≤ i))
+
+-- outside the modes, and beyond the numbers of a rank, a fall row is zero
+abbrev pub ZeroOutside : Kind → Type 0
+ZeroOutside kind = (mode i : ℕ) → Outside kind.numbers mode i → kind.fall mode i ≡ None

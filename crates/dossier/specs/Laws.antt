@@ -6,10 +6,10 @@ use Rattle.dossier.specs.declared.fault.AdmitFault.{AdmitFault}
 use Rattle.dossier.specs.declared.fault.AdmitFault.TheVariants.{Other, NoEdge, StartLine, MoveLine, Shown, StepElsewhere, EdgeElsewhere, PointLine}
 use Rattle.dossier.specs.Admission.{Trial, moves, start_line, move_line, point_line, shown_values, step_begins, edge_begins, admit_every_run, admit_some_run, every_run_trials, every_run_lines, some_run_trials, some_run_lines}
 use Rattle.dossier.specs.Dossier.{head, start_row, region_row, rank_row, start_point, points, point_conclusions}
-use Rattle.dossier.specs.Kinds.{Kind, Lawful, NonNegative, by_first_difference}
+use Rattle.dossier.specs.Kinds.{Kind, Lawful, ZeroOutside, NonNegative, by_first_difference}
 use Rattle.dossier.specs.Lines.{line_holds}
 use Rattle.dossier.specs.Rows.{Row, holds}
-use Rattle.dossier.specs.Runs.{Goes_on, EveryRunLaw, SomeRunLaw}
+use Rattle.dossier.specs.Runs.{GoesOn, Endless, followed, EveryRunLaw, WatchFollows, SomeRunLaw}
 
 abbrev pub AllHold : List Row → List ℤ → Type 0
 AllHold [] xs = Unit {0}
@@ -23,6 +23,9 @@ LineLaw = (n : ℕ) (d : ℤ) (ms : List ℤ) (hs : List Row) (c : Row) → T (l
 abbrev pub KindsLaw : Type 0
 KindsLaw = (n : ℕ) → Lawful (by_first_difference n)
 
+abbrev pub OutsideLaw : Type 0
+OutsideLaw = (n : ℕ) → ZeroOutside (by_first_difference n)
+
 abbrev pub AllPass : List Trial → Type 0
 AllPass [] = Unit {0}
 AllPass (t ∷ ts) = T t.passes × AllPass ts
@@ -32,7 +35,7 @@ pub record EveryRunTests (kind : Kind) (cells : List ℤ) : Type 0 where
   pub form : (head cells).form ≡ 1
   pub numbers : (head cells).rank_numbers ≡ kind.numbers
   -- from every state some edge goes on with every letter
-  pub watched : (q l : ℕ) → q < (head cells).states → l < 2 ^ (head cells).propositions → Goes_on cells q l
+  pub watched : (q l : ℕ) → q < (head cells).states → l < 2 ^ (head cells).propositions → GoesOn cells q l
   pub start_lines : (k : ℕ) → k < point_rows (head cells) → T (start_line cells k)
   pub move_lines : (m k : ℕ) → m < moves cells → k < conclusions (head cells) → T (move_line cells kind m k)
 
@@ -74,8 +77,18 @@ abbrev pub lines_in : List Trial → ℕ
 lines_in [] = 0
 lines_in (t ∷ ts) = cond (is_line t.fault) 1 0 + lines_in ts
 
--- a dossier is admitted exactly when every test passes, and a refusal names the first that fails in the order of the tests
+-- a dossier is admitted exactly when every test passes
 pub record AdmittedExactly (kind : Kind) (cells : List ℤ) : Type 0 where
+  pub every_run : (n : ℕ) → admit_every_run kind cells ≡ Ok n → (n ≡ every_run_lines cells) × AllPass (every_run_trials cells kind)
+  pub every_run_back : AllPass (every_run_trials cells kind) → admit_every_run kind cells ≡ Ok (every_run_lines cells)
+  pub some_run : (n : ℕ) → admit_some_run kind cells ≡ Ok n → (n ≡ some_run_lines cells) × AllPass (some_run_trials cells kind)
+  pub some_run_back : AllPass (some_run_trials cells kind) → admit_some_run kind cells ≡ Ok (some_run_lines cells)
+
+abbrev pub ExactlyLaw : Type 1
+ExactlyLaw = (kind : Kind) (cells : List ℤ) → AdmittedExactly kind cells
+
+-- a dossier is admitted exactly when every test passes, and a refusal names the first that fails in the order of the tests
+pub record AdmittedByTests (kind : Kind) (cells : List ℤ) : Type 0 where
   pub every_run : (n : ℕ) → (admit_every_run kind cells ≡ Ok n) ↔ ((n ≡ every_run_lines cells) × EveryRunTests kind cells)
   pub every_run_first : (f : AdmitFault) → (admit_every_run kind cells ≡ Err f) ↔ FirstFailing (every_run_trials cells kind) f
   pub every_run_counted : every_run_lines cells ≡ lines_in (every_run_trials cells kind)
@@ -83,8 +96,8 @@ pub record AdmittedExactly (kind : Kind) (cells : List ℤ) : Type 0 where
   pub some_run_first : (f : AdmitFault) → (admit_some_run kind cells ≡ Err f) ↔ FirstFailing (some_run_trials cells kind) f
   pub some_run_counted : some_run_lines cells ≡ lines_in (some_run_trials cells kind)
 
-abbrev pub ExactlyLaw : Type 1
-ExactlyLaw = (kind : Kind) (cells : List ℤ) → AdmittedExactly kind cells
+abbrev pub ByTestsLaw : Type 1
+ByTestsLaw = (kind : Kind) (cells : List ℤ) → AdmittedByTests kind cells
 
 -- what admission buys: at a well-formed list and a lawful kind
 abbrev pub EveryRunTheorem : Type 1
@@ -92,3 +105,10 @@ EveryRunTheorem = (kind : Kind) → Lawful kind → (cells : List ℤ) → well_
 
 abbrev pub SomeRunTheorem : Type 1
 SomeRunTheorem = (kind : Kind) → Lawful kind → (cells : List ℤ) → well_formed cells ≡ true → (n : ℕ) → admit_some_run kind cells ≡ Ok n → SomeRunLaw cells
+
+abbrev pub FollowsTheorem : Type 1
+FollowsTheorem = (kind : Kind) → Lawful kind → (cells : List ℤ) → well_formed cells ≡ true → (n : ℕ) → admit_every_run kind cells ≡ Ok n → WatchFollows cells
+
+-- following the choices is an endless run
+abbrev pub FollowedTheorem : Type 1
+FollowedTheorem = (kind : Kind) → Lawful kind → (cells : List ℤ) → well_formed cells ≡ true → (n : ℕ) → admit_some_run kind cells ≡ Ok n → Endless cells (followed cells)

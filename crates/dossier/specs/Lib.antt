@@ -1,4 +1,5 @@
 pub mod Admission
+pub mod CaseTable
 pub mod Cases
 pub mod Dossier
 pub mod Kinds

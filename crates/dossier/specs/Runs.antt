@@ -38,9 +38,11 @@ module _ (cells : List ℤ) where
 
   -- step t and edge e can be made at a situation
   pub record Can (t e : ℕ) (s : Situation) : Type 0 where
-    pub opened : Open t s
+    pub step_is : t < (head cells).steps
     pub edge_is : e < (head cells).edges
+    pub step_here : step_from cells t ≡ s.place
     pub edge_here : edge_from cells e ≡ s.state
+    pub guarded : (g : ℕ) → g < (head cells).guards → T (holds (guard cells t g) s.values)
     pub matching : T (matches e (letter s.place s.values))
 
   abbrev pub after : ℕ → ℕ → Situation → Situation
@@ -84,18 +86,20 @@ module _ (cells : List ℤ) where
     pub ranked : NonNegative (rank s)
 
   -- an edge that goes on from a state with a letter
-  abbrev pub Goes_on : ℕ → ℕ → Type 0
-  Goes_on q l = (e : ℕ) × (e < (head cells).edges) × (edge_from cells e ≡ q) × T (matches e l)
+  abbrev pub GoesOn : ℕ → ℕ → Type 0
+  GoesOn q l = (e : ℕ) × (e < (head cells).edges) × (edge_from cells e ≡ q) × T (matches e l)
 
   -- what admission buys of an every-run dossier
   pub record EveryRunLaw : Type 0 where
-    -- from every state some edge goes on with every letter
-    pub watched : (q l : ℕ) → q < (head cells).states → l < 2 ^ (head cells).propositions → Goes_on q l
-    -- so the watch follows every open step of the program
-    pub follows : (s : Situation) → Reached s → (t : ℕ) → Open t s → (e : ℕ) × Can t e s
+    -- from every state and letter some edge goes on, so that the watch follows every step of the program
+    pub watched : (q l : ℕ) → q < (head cells).states → l < 2 ^ (head cells).propositions → (e : ℕ) × (e < (head cells).edges) × (edge_from cells e ≡ q) × T (matches e l)
     pub within : (s : Situation) → Reached s → Within s
     -- an endless run stands at a marked point at or after move k, for every k
     pub recurs : (run : ℕ → Situation) → Endless run → (k : ℕ) → (j : ℕ) × (k ≤ j) × T (marked (run j))
+
+  -- the watch follows every open step of the program
+  abbrev pub WatchFollows : Type 0
+  WatchFollows = (s : Situation) → Reached s → (t : ℕ) → Open t s → (e : ℕ) × Can t e s
 
   abbrev pub shown_start : Situation
   shown_start = record { place = (head cells).start_place; state = (head cells).start_state; values = each (head cells).variables (shown cells) }
@@ -113,8 +117,6 @@ module _ (cells : List ℤ) where
   -- what admission buys of a some-run dossier: the choices can be followed for ever, and marked points are visited again and again
   pub record SomeRunLaw : Type 0 where
     pub starts : Start shown_start
-    -- following the choices is an endless run
-    pub runs : Endless followed
     pub chosen : (i : ℕ) → choice_mode cells (point (followed i)) ≢ 0
     pub can : (i : ℕ) → Can (choice_step cells (point (followed i))) (choice_edge cells (point (followed i))) (followed i)
     pub within : (i : ℕ) → Within (followed i)

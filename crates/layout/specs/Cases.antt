@@ -30,7 +30,18 @@ run_down_lines =
     codes "72000000010000000000000000" ∷ []
 
 abbrev pub run_down_text : List ℕ
-run_down_text = text_of run_down_lines
+run_down_text =
+    codes "1001010100010101010000000101" ++ feed ++
+    codes "2000000001" ++ feed ++
+    codes "300000FFFF0001" ++ feed ++
+    codes "31FFFF0001" ++ feed ++
+    codes "5000" ++ feed ++
+    codes "5100000000" ++ feed ++
+    codes "6100000001" ++ feed ++
+    codes "700000000100000001" ++ feed ++
+    codes "7101" ++ feed ++
+    codes "72000000010000000000000001" ++ feed ++
+    codes "72000000010000000000000000" ++ feed
 
 abbrev pub run_down_cells : List ℤ
 run_down_cells =

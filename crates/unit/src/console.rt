@@ -10,7 +10,7 @@ use crate::refused::Refused;
 use crate::stage::{Stage, admit};
 use crate::unmet::Unmet;
 use certificate::admitted::Refused as NotAdmitted;
-use ranks::kind::{OneNumber, TwoNumbers};
+use certificate::kind::{OneNumber, TwoNumbers};
 use sheet::read::read;
 use sources::source::Source;
 use std::alloc::Global;

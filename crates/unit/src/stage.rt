@@ -3,7 +3,7 @@ use crate::call::Form;
 use crate::dossier::Dossier;
 use certificate::admit::{admit_every_run, admit_some_run};
 use certificate::admitted::{Admitted, EveryRun, Refused, SomeRun};
-use ranks::kind::{OneNumber, RankKind, TwoNumbers};
+use certificate::kind::{OneNumber, RankKind, TwoNumbers};
 
 // An admitted dossier of either form.
 #[derive(Drop)]

@@ -1,5 +1,4 @@
 use Rattle.std.proofs.Common.{◌*◌, ◌/◌, ◌%◌, ◌<◌, length, sym, ap, ◌∙◌, subst, arith}
-use Rattle.dossier.specs.Rows.{zero_row}
 use Rattle.dossier.specs.declared.fault.AdmitFault.TheVariants.{MoveLine}
 use Rattle.dossier.specs.Admission as admission
 use Rattle.dossier.specs.Dossier as view
@@ -8,7 +7,7 @@ use Rattle.dossier.proofs.Tests.{length_move_claims}
 use Rattle.certificate.specs.Outcomes.{outcome}
 use Rattle.certificate.proofs.Failures.{joined_more, joined_first}
 use Rattle.certificate.proofs.Groups.{move_group, judgement}
-use Rattle.certificate.proofs.Numbered.{more, fails, done}
+use Rattle.certificate.proofs.Numbered.{line_more, line_fails, lines_done}
 use Rattle.certificate.proofs.Places.{move_below, step_below, edge_below}
 use Rattle.certificate.proofs.Tables.{held_length}
 use Rattle.certificate.proofs.every_run.failing_line.Goals as goal
@@ -61,7 +60,7 @@ loop-line-preserved g c =
     let assumed = c.move_hypotheses.ensures ∙ ap (λ n. admission.move_hypotheses_of cells (m / n) (m % n)) edges in
     let j = judgement (move_group cells (g.S.Source.formed c.args.source.now) g.K.RankKind.kind g.met.K.RankKind.lawful c.requires.1.1 c.requires.1.0 m below) c.move_hypotheses.new.table c.move_claims.new.table assumed c.move_claims.ensures c.loop-line.line c.loop-line-test.true
     (c.move_line_at-at.ensures.0 ∙ ap (λ h. view.move_line_at h m c.loop-line.line) c.requires.0) c.row.ensures in
-    (c.loop-line.invariant.0, more (admission.line_trial cells (view.move_line_at (view.head cells) m) (view.move_hypotheses (view.head cells)) (admission.move_hypotheses_of cells (admission.move_step cells m) (admission.move_edge cells m)) (MoveLine m)) zero_row (admission.move_claims cells g.K.RankKind.kind m) c.loop-line.line j.inside (sym (c.if-not-judge.ensures ∙ j.judged)) c.loop-line.invariant.1)
+    (c.loop-line.invariant.0, line_more cells (view.move_line_at (view.head cells) m) (view.move_hypotheses (view.head cells)) (admission.move_hypotheses_of cells (admission.move_step cells m) (admission.move_edge cells m)) (MoveLine m) (admission.move_claims cells g.K.RankKind.kind m) c.loop-line.line j.inside (sym (c.if-not-judge.ensures ∙ j.judged)) c.loop-line.invariant.1)
 
 pub search-preserved : goal.search-preserved
 search-preserved g c =
@@ -69,8 +68,8 @@ search-preserved g c =
     let m = c.search.index in
     let below : m < admission.moves cells = omega (arith, ap (λ h. h.steps * h.edges) c.requires.0) in
     let C = c.move_claims.new.table in
-    let none = done (admission.line_trial cells (view.move_line_at (view.head cells) m) (view.move_hypotheses (view.head cells)) (admission.move_hypotheses_of cells (admission.move_step cells m) (admission.move_edge cells m)) (MoveLine m)) zero_row (admission.move_claims cells g.K.RankKind.kind m) c.loop-line.line (omega (arith, held_length C, ap length c.move_claims.ensures)) c.loop-line.invariant.1 in
-    (c.loop-line.invariant.0, joined_more (admission.moves cells) (admission.move_trials cells g.K.RankKind.kind) m below (sym (ap outcome none)) c.search.invariant.1)
+    let none = lines_done cells (view.move_line_at (view.head cells) m) (view.move_hypotheses (view.head cells)) (admission.move_hypotheses_of cells (admission.move_step cells m) (admission.move_edge cells m)) (MoveLine m) (admission.move_claims cells g.K.RankKind.kind m) c.loop-line.line (omega (arith, held_length C, ap length c.move_claims.ensures)) c.loop-line.invariant.1 in
+    (c.loop-line.invariant.0, joined_more (admission.moves cells) (admission.trials_of_move cells g.K.RankKind.kind) m below (sym (ap outcome none)) c.search.invariant.1)
 
 pub returns-then-not-judge : goal.returns-then-not-judge
 returns-then-not-judge g c =
@@ -81,5 +80,5 @@ returns-then-not-judge g c =
     let assumed = c.move_hypotheses.ensures ∙ ap (λ n. admission.move_hypotheses_of cells (m / n) (m % n)) edges in
     let j = judgement (move_group cells (g.S.Source.formed c.args.source.now) g.K.RankKind.kind g.met.K.RankKind.lawful c.requires.1.1 c.requires.1.0 m below) c.move_hypotheses.new.table c.move_claims.new.table assumed c.move_claims.ensures c.loop-line.line c.loop-line-test.true
     (c.move_line_at-at.ensures.0 ∙ ap (λ h. view.move_line_at h m c.loop-line.line) c.requires.0) c.row.ensures in
-    let fault = fails (admission.line_trial cells (view.move_line_at (view.head cells) m) (view.move_hypotheses (view.head cells)) (admission.move_hypotheses_of cells (admission.move_step cells m) (admission.move_edge cells m)) (MoveLine m)) zero_row (admission.move_claims cells g.K.RankKind.kind m) c.loop-line.line j.inside (sym (c.if-not-judge.ensures ∙ j.judged)) c.loop-line.invariant.1 in
-    sym (joined_first (admission.moves cells) (admission.move_trials cells g.K.RankKind.kind) m (MoveLine m c.loop-line.line) below fault c.search.invariant.1)
+    let fault = line_fails cells (view.move_line_at (view.head cells) m) (view.move_hypotheses (view.head cells)) (admission.move_hypotheses_of cells (admission.move_step cells m) (admission.move_edge cells m)) (MoveLine m) (admission.move_claims cells g.K.RankKind.kind m) c.loop-line.line j.inside (sym (c.if-not-judge.ensures ∙ j.judged)) c.loop-line.invariant.1 in
+    sym (joined_first (admission.moves cells) (admission.trials_of_move cells g.K.RankKind.kind) m (MoveLine m c.loop-line.line) below fault c.search.invariant.1)

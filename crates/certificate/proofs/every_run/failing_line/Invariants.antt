@@ -1,20 +1,19 @@
 use Rattle.std.proofs.Common.{◌≡◌, None}
-use Rattle.dossier.specs.Rows.{zero_row}
 use Rattle.dossier.specs.declared.fault.AdmitFault.TheVariants.{MoveLine}
 use Rattle.dossier.specs.Admission as admission
 use Rattle.dossier.specs.Dossier as view
 use Rattle.certificate.proofs.Failures.{LeftJoined}
-use Rattle.certificate.proofs.Numbered.{Left}
+use Rattle.certificate.proofs.Numbered.{LinesLeft}
 use Rattle.certificate.proofs.every_run.failing_line.Given as goal
 
 -- what is left of the moves gives the answer
 abbrev pub invariant-search : goal.invariant-search
-invariant-search g l = (l.failing ≡ None) × LeftJoined (admission.moves (g.S.Source.cells l.source)) (admission.move_trials (g.S.Source.cells l.source) g.K.RankKind.kind) l.index
+invariant-search g l = (l.failing ≡ None) × LeftJoined (admission.moves (g.S.Source.cells l.source)) (admission.trials_of_move (g.S.Source.cells l.source) g.K.RankKind.kind) l.index
 
 -- what is left of a move's lines gives the answer
 abbrev pub invariant-loop-line : goal.invariant-loop-line
 invariant-loop-line g l =
     (l.failing ≡ None)
-    × Left (admission.line_trial (g.S.Source.cells l.source) (view.move_line_at (view.head (g.S.Source.cells l.source)) l.index) (view.move_hypotheses (view.head (g.S.Source.cells l.source)))
+    × LinesLeft (g.S.Source.cells l.source) (view.move_line_at (view.head (g.S.Source.cells l.source)) l.index) (view.move_hypotheses (view.head (g.S.Source.cells l.source)))
     (admission.move_hypotheses_of (g.S.Source.cells l.source) (admission.move_step (g.S.Source.cells l.source) l.index) (admission.move_edge (g.S.Source.cells l.source) l.index))
-    (MoveLine l.index)) zero_row (admission.move_claims (g.S.Source.cells l.source) g.K.RankKind.kind l.index) l.line
+    (MoveLine l.index) (admission.move_claims (g.S.Source.cells l.source) g.K.RankKind.kind l.index) l.line

@@ -1,5 +1,4 @@
 use Rattle.std.proofs.Common.{◌++◌, length, sym, ap, ◌∙◌, arith}
-use Rattle.dossier.specs.Rows.{zero_row}
 use Rattle.dossier.specs.declared.fault.AdmitFault.TheVariants.{StartLine}
 use Rattle.dossier.specs.Admission as admission
 use Rattle.dossier.specs.Dossier as view
@@ -7,7 +6,7 @@ use Rattle.dossier.proofs.CellRanges.{program_ranges}
 use Rattle.dossier.proofs.Tests.{length_start}
 use Rattle.certificate.specs.Outcomes.{outcome}
 use Rattle.certificate.proofs.Groups.{start_group, judgement}
-use Rattle.certificate.proofs.Numbered.{more, fails, done}
+use Rattle.certificate.proofs.Numbered.{line_more, line_fails, lines_done}
 use Rattle.certificate.proofs.Tables.{held_length}
 use Rattle.certificate.proofs.every_run.start_lines.Goals as goal
 
@@ -35,7 +34,7 @@ returns-then-not-judge g c =
     let claims = c.push_start_point.ensures ∙ ap (λ rows. rows ++ admission.start_conclusions cells) c.clear.ensures in
     let j = judgement (start_group cells (g.S.Source.formed c.args.source.now) c.requires.1) c.start_hypotheses.new.table c.push_start_point.new.table c.start_hypotheses.ensures claims c.loop-line.line c.loop-line-test.true
     (c.start_line_at-at.ensures.0 ∙ ap (λ h. view.start_line_at h c.loop-line.line) c.requires.0) c.row.ensures in
-    sym (ap outcome (fails (admission.line_trial cells (view.start_line_at (view.head cells)) (view.head cells).start_rows (admission.start_hypotheses cells) StartLine) zero_row (admission.start_conclusions cells) c.loop-line.line
+    sym (ap outcome (line_fails cells (view.start_line_at (view.head cells)) (view.head cells).start_rows (admission.start_hypotheses cells) StartLine (admission.start_conclusions cells) c.loop-line.line
     j.inside (sym (c.if-not-judge.ensures ∙ j.judged)) c.loop-line.invariant))
 
 pub loop-line-preserved : goal.loop-line-preserved
@@ -44,7 +43,7 @@ loop-line-preserved g c =
     let claims = c.push_start_point.ensures ∙ ap (λ rows. rows ++ admission.start_conclusions cells) c.clear.ensures in
     let j = judgement (start_group cells (g.S.Source.formed c.args.source.now) c.requires.1) c.start_hypotheses.new.table c.push_start_point.new.table c.start_hypotheses.ensures claims c.loop-line.line c.loop-line-test.true
     (c.start_line_at-at.ensures.0 ∙ ap (λ h. view.start_line_at h c.loop-line.line) c.requires.0) c.row.ensures in
-    more (admission.line_trial cells (view.start_line_at (view.head cells)) (view.head cells).start_rows (admission.start_hypotheses cells) StartLine) zero_row (admission.start_conclusions cells) c.loop-line.line
+    line_more cells (view.start_line_at (view.head cells)) (view.head cells).start_rows (admission.start_hypotheses cells) StartLine (admission.start_conclusions cells) c.loop-line.line
     j.inside (sym (c.if-not-judge.ensures ∙ j.judged)) c.loop-line.invariant
 
 pub returns : goal.returns
@@ -52,5 +51,5 @@ returns g c =
     let cells = g.S.Source.cells c.args.source.now in
     let C = c.push_start_point.new.table in
     let claims = c.push_start_point.ensures ∙ ap (λ rows. rows ++ admission.start_conclusions cells) c.clear.ensures in
-    sym (ap outcome (done (admission.line_trial cells (view.start_line_at (view.head cells)) (view.head cells).start_rows (admission.start_hypotheses cells) StartLine) zero_row (admission.start_conclusions cells) c.loop-line.line
+    sym (ap outcome (lines_done cells (view.start_line_at (view.head cells)) (view.head cells).start_rows (admission.start_hypotheses cells) StartLine (admission.start_conclusions cells) c.loop-line.line
     (omega (arith, held_length C, ap length claims)) c.loop-line.invariant))

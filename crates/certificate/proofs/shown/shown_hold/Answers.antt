@@ -2,8 +2,10 @@ use Rattle.std.proofs.Common.{◌≡◌, ℕ, zero, suc, ◌<◌, true, false, L
 use lib.Signed.{le_z, lt_z}
 use Rattle.std.proofs.lemmas.Int.{ints, to_z-of_z}
 use Rattle.dossier.specs.Admission as admission
+use Rattle.dossier.specs.Admission.{first_failure}
 use Rattle.dossier.specs.Dossier as view
 use Rattle.dossier.specs.Rows.{Row, value, zero_row, taken}
+use Rattle.dossier.proofs.InOrder.{row_trial, rows_numbered}
 use Rattle.dossier.proofs.LineLaw.{dot_each}
 use Rattle.dossier.proofs.CellRanges.{program_ranges}
 use Rattle.dossier.proofs.Trials.{length_each}
@@ -76,7 +78,7 @@ returns-then-taken_column-lt0 g c =
     let r = get_or (admission.shown_rows cells) c.loop-row.row zero_row in
     let v = row_value cells c.shown_values-values.result c.args.head.now.variables _ r c.taken_column.result (ap (λ h. h.variables) c.requires) c.shown_values-values.ensures.0 (c.row.ensures ∙ ap (λ xs. get_or xs c.loop-row.row zero_row) rows) c.taken_column.ensures in
     let fits : SFits w64 c.taken_column.result = search rules in
-    sym (ap outcome (fails (admission.row_trial cells) zero_row (admission.shown_rows cells) c.loop-row.row inside (sign_no _ _ v c.if-taken_column-lt0.true fits) c.loop-row.invariant))
+    sym (ap outcome (ap first_failure (rows_numbered cells 0 (admission.shown_rows cells)) ∙ fails (row_trial cells) zero_row (admission.shown_rows cells) c.loop-row.row inside (sign_no _ _ v c.if-taken_column-lt0.true fits) c.loop-row.invariant))
 
 pub loop-row-preserved : goal.loop-row-preserved
 loop-row-preserved g c =
@@ -86,10 +88,10 @@ loop-row-preserved g c =
     let r = get_or (admission.shown_rows cells) c.loop-row.row zero_row in
     let v = row_value cells c.shown_values-values.result c.args.head.now.variables _ r c.taken_column.result (ap (λ h. h.variables) c.requires) c.shown_values-values.ensures.0 (c.row.ensures ∙ ap (λ xs. get_or xs c.loop-row.row zero_row) rows) c.taken_column.ensures in
     let fits : SFits w64 c.taken_column.result = search rules in
-    more (admission.row_trial cells) zero_row (admission.shown_rows cells) c.loop-row.row inside (sign_yes _ _ v c.if-taken_column-lt0.false fits) c.loop-row.invariant
+    more (row_trial cells) zero_row (admission.shown_rows cells) c.loop-row.row inside (sign_yes _ _ v c.if-taken_column-lt0.false fits) c.loop-row.invariant
 
 pub returns : goal.returns
 returns g c =
     let cells = g.S.Source.cells c.args.source.now in
     let rows = c.push_start_point.ensures ∙ ap (λ rows. rows ++ admission.start_conclusions cells) c.start_hypotheses.ensures in
-    sym (ap outcome (done (admission.row_trial cells) zero_row (admission.shown_rows cells) c.loop-row.row (omega (arith, ap length rows, held_length c.push_start_point.new.table)) c.loop-row.invariant))
+    sym (ap outcome (ap first_failure (rows_numbered cells 0 (admission.shown_rows cells)) ∙ done (row_trial cells) zero_row (admission.shown_rows cells) c.loop-row.row (omega (arith, ap length rows, held_length c.push_start_point.new.table)) c.loop-row.invariant))
