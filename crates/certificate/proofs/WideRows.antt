@@ -72,17 +72,17 @@ module _ (cells : List ℤ) (ranges : ProgramRanges cells) where
       (each_within short (head cells).rank_numbers (rank_row cells p) (λ k l. row_short cells _ (ranges.point_rows p ((head cells).region_rows + k) h (omega arith))))
 
   pub start_wide : RowsWithin wide (Admission.start_hypotheses cells)
-  start_wide = rows_more 32768 17179869184 (Admission.start_hypotheses cells) (omega arith) start_short
+  start_wide = rows_more 32768 34359738368 (Admission.start_hypotheses cells) (omega arith) start_short
 
   pub point_wide : (p : ℕ) → p < points (head cells) → RowsWithin wide (Admission.point_hypotheses cells p)
-  point_wide p h = rows_more 32768 17179869184 (Admission.point_hypotheses cells p) (omega arith) (point_short p h)
+  point_wide p h = rows_more 32768 34359738368 (Admission.point_hypotheses cells p) (omega arith) (point_short p h)
 
   -- the rows that the shown values are to satisfy
   pub shown_short : start_point cells < points (head cells) → RowsWithin short (Admission.shown_rows cells)
   shown_short h = append_within short (Admission.start_hypotheses cells) (Admission.point_hypotheses cells (start_point cells)) start_short (point_short (start_point cells) h)
 
   guards_wide : (t : ℕ) → t < (head cells).steps → RowsWithin wide (Admission.guard_rows cells t)
-  guards_wide t h = each_within wide (head cells).guards (guard cells t) (λ i l. row_more 32768 17179869184 _ (omega arith) (row_short cells _ (ranges.guards t i h l)))
+  guards_wide t h = each_within wide (head cells).guards (guard cells t) (λ i l. row_more 32768 34359738368 _ (omega arith) (row_short cells _ (ranges.guards t i h l)))
 
   edge_row_within : (e place i : ℕ) → i < (head cells).propositions → RowWithin 32769 (Admission.edge_row cells e place i)
   edge_row_within e place i l =
@@ -94,7 +94,7 @@ module _ (cells : List ℤ) (ranges : ProgramRanges cells) where
       (zero_row_within 32769))
 
   edge_rows_wide : (e place : ℕ) → RowsWithin wide (Admission.edge_rows cells e place)
-  edge_rows_wide e place = each_within wide (head cells).propositions (Admission.edge_row cells e place) (λ i l. row_more 32769 17179869184 _ (omega arith) (edge_row_within e place i l))
+  edge_rows_wide e place = each_within wide (head cells).propositions (Admission.edge_row cells e place) (λ i l. row_more 32769 34359738368 _ (omega arith) (edge_row_within e place i l))
 
   module _ (t e : ℕ) (step : t < (head cells).steps) (edge : e < (head cells).edges) where
     first_rank : (k : ℕ) → k < (head cells).rank_numbers → RowWithin short (rank_row cells (Admission.first_point cells t e) k)
@@ -112,19 +112,19 @@ module _ (cells : List ℤ) (ranges : ProgramRanges cells) where
         (append_within wide (Admission.guard_rows cells t) _ (guards_wide t step) (edge_rows_wide e (step_from cells t)))
 
     fall_wide : (fall : Fall) → Inside (head cells).rank_numbers fall → RowWithin wide (fall_row fall (rank_row cells (Admission.first_point cells t e)) (λ k. Admission.at_step cells t (rank_row cells (Admission.last_point cells t e) k)))
-    fall_wide None l = zero_row_within 17179869184
-    fall_wide (Keeps k) l = row_more 8589967360 17179869184 _ (omega arith) (λ j. difference_within 32768 8589934592 _ _ (first_rank k l j) (last_rank k l j))
-    fall_wide (Drops k) l = row_more 8589967361 17179869184 _ (omega arith) (less_within 8589967360 _ (λ j. difference_within 32768 8589934592 _ _ (first_rank k l j) (last_rank k l j)))
+    fall_wide None l = zero_row_within 34359738368
+    fall_wide (Keeps k) l = row_more 8589967360 34359738368 _ (omega arith) (λ j. difference_within 32768 8589934592 _ _ (first_rank k l j) (last_rank k l j))
+    fall_wide (Drops k) l = row_more 8589967361 34359738368 _ (omega arith) (less_within 8589967360 _ (λ j. difference_within 32768 8589934592 _ _ (first_rank k l j) (last_rank k l j)))
 
     module _ (kind : Kind) (lawful : Lawful kind) (numbers : (head cells).rank_numbers ≡ kind.numbers) (mode : ℕ) where
       conclusions_wide : RowsWithin wide (Admission.move_conclusions cells kind mode t e)
       conclusions_wide =
           append_within wide (each (head cells).region_rows (λ i. Admission.at_step cells t (region_row cells (Admission.last_point cells t e) i))) _
-          (each_within wide (head cells).region_rows (λ i. Admission.at_step cells t (region_row cells (Admission.last_point cells t e) i)) (λ i l. row_more 8589934592 17179869184 _ (omega arith) (last_region i l)))
+          (each_within wide (head cells).region_rows (λ i. Admission.at_step cells t (region_row cells (Admission.last_point cells t e) i)) (λ i l. row_more 8589934592 34359738368 _ (omega arith) (last_region i l)))
           (append_within wide (each (head cells).rank_numbers (λ k. Admission.at_step cells t (rank_row cells (Admission.last_point cells t e) k))) _
-          (each_within wide (head cells).rank_numbers (λ k. Admission.at_step cells t (rank_row cells (Admission.last_point cells t e) k)) (λ k l. row_more 8589934592 17179869184 _ (omega arith) (last_rank k l)))
+          (each_within wide (head cells).rank_numbers (λ k. Admission.at_step cells t (rank_row cells (Admission.last_point cells t e) k)) (λ k l. row_more 8589934592 34359738368 _ (omega arith) (last_rank k l)))
           (each_within wide (head cells).rank_numbers _ (λ i l.
-          cond_within wide (marked_state cells (edge_from cells e)) zero_row _ (zero_row_within 17179869184)
+          cond_within wide (marked_state cells (edge_from cells e)) zero_row _ (zero_row_within 34359738368)
           (fall_wide (kind.fall mode i) (subst (λ n. Inside n (kind.fall mode i)) (sym numbers) (lawful.inside mode i))))))
 
       choice_wide : RowsWithin wide (Admission.choice_conclusions cells kind mode t e)

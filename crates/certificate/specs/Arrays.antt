@@ -43,7 +43,7 @@ long = 8589934592
 
 -- numbers of all rows that a proof line compares: small enough that a line's sums stay exact
 abbrev pub wide : ℕ
-wide = 17179869184
+wide = 34359738368
 
 -- multipliers of a line
 abbrev pub Factors : List ℤ → Type 0

@@ -6,7 +6,7 @@ ghost use Rattle.certificate.specs.Arrays.{row_of, rows_of, Within, RowWithin, W
 // A multiplier, a divisor or a coefficient times a number of a row.
 pub(crate) fn product(factor: i64, number: i64) -> i64
     requires { (Within 1048576 factor) × (Within wide number) }
-    ensures { (result ≡ factor *ℤ number) × (Within 18014398509481984 result) }
+    ensures { (result ≡ factor *ℤ number) × (Within 36028797018963968 result) }
 {
     factor * number
 }

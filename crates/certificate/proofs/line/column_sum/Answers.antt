@@ -17,10 +17,10 @@ product-term-requires c =
     let bound = w.bounded c.loop-k.k (omega (arith, length-map c.args.hypotheses.now row_of)) c.args.column in
     simp to_z-of_z (factor_within _ (w.factors c.loop-k.k (omega arith)), subst (λ r. Within wide (r c.args.column)) row bound)
 
-bounded : (c : goal.After-product-term) → Within ((c.loop-k.k + 1) * 18014398509481984) (c.loop-k.sum +ℤ c.product-term.result)
+bounded : (c : goal.After-product-term) → Within ((c.loop-k.k + 1) * 36028797018963968) (c.loop-k.sum +ℤ c.product-term.result)
 bounded c =
     subst (λ n. Within n (c.loop-k.sum +ℤ c.product-term.result)) (omega arith)
-    (sum_within (c.loop-k.k * 18014398509481984) 18014398509481984 c.loop-k.sum c.product-term.result (simp c.loop-k.sum-is at c.loop-k.invariant.1) c.product-term.ensures.1)
+    (sum_within (c.loop-k.k * 36028797018963968) 36028797018963968 c.loop-k.sum c.product-term.result (simp c.loop-k.sum-is at c.loop-k.invariant.1) c.product-term.ensures.1)
 
 fits : (c : goal.After-product-term) → SFits w64 (c.loop-k.sum +ℤ c.product-term.result)
 fits c = fits_64 _ (within_more _ _ _ (omega (arith, c.requires.1.few)) (bounded c))

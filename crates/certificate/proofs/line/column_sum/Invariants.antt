@@ -7,4 +7,4 @@ use Rattle.certificate.proofs.line.column_sum.Given as goal
 abbrev pub invariant-loop-k : goal.invariant-loop-k
 invariant-loop-k l =
     (l.sum +ℤ sums (drop l.k l.multipliers) (rows_of (drop l.k l.hypotheses)) l.column ≡ sums l.multipliers (rows_of l.hypotheses) l.column)
-    × Within (l.k * 18014398509481984) l.sum
+    × Within (l.k * 36028797018963968) l.sum

@@ -4,11 +4,11 @@ use Rattle.certificate.specs.Arrays.{Within}
 use Rattle.certificate.proofs.Bounds.{product_within, within_more, fits_64}
 use Rattle.certificate.proofs.line.product.Goals as goal
 
-bounded : (c : goal.Start) → Within 18014398509481984 (c.args.factor *ℤ c.args.number)
-bounded c = product_within 1048576 17179869184 c.args.factor c.args.number c.requires.0 c.requires.1
+bounded : (c : goal.Start) → Within 36028797018963968 (c.args.factor *ℤ c.args.number)
+bounded c = product_within 1048576 34359738368 c.args.factor c.args.number c.requires.0 c.requires.1
 
 fits : (c : goal.Start) → SFits w64 (c.args.factor *ℤ c.args.number)
-fits c = fits_64 _ (within_more 18014398509481984 _ _ (omega arith) (bounded c))
+fits c = fits_64 _ (within_more 36028797018963968 _ _ (omega arith) (bounded c))
 
 pub overflow_mul-result : goal.overflow_mul-result
 overflow_mul-result c =

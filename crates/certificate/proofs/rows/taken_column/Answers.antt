@@ -12,10 +12,10 @@ product-term-requires c =
     let b : SFits w64 (get_or (get_or c.args.updates.now c.loop-v.v []) c.args.column (pos 0)) = search rules in
     simp to_z-of_z (within_more 32768 1048576 _ (omega arith) (c.requires.1.1.0 (c.loop-v.v + 1)), c.requires.1.1.1 c.loop-v.v (omega arith) c.args.column)
 
-bounded : (c : goal.After-product-term) → Within (32768 + (c.loop-v.v + 1) * 18014398509481984) (c.loop-v.sum +ℤ c.product-term.result)
+bounded : (c : goal.After-product-term) → Within (32768 + (c.loop-v.v + 1) * 36028797018963968) (c.loop-v.sum +ℤ c.product-term.result)
 bounded c =
     subst (λ n. Within n (c.loop-v.sum +ℤ c.product-term.result)) (omega arith)
-    (sum_within (32768 + c.loop-v.v * 18014398509481984) 18014398509481984 c.loop-v.sum c.product-term.result (simp c.loop-v.sum-is at c.loop-v.invariant.1) c.product-term.ensures.1)
+    (sum_within (32768 + c.loop-v.v * 36028797018963968) 36028797018963968 c.loop-v.sum c.product-term.result (simp c.loop-v.sum-is at c.loop-v.invariant.1) c.product-term.ensures.1)
 
 fits : (c : goal.After-product-term) → SFits w64 (c.loop-v.sum +ℤ c.product-term.result)
 fits c = fits_64 _ (within_more _ _ _ (omega (arith, c.requires.0)) (bounded c))

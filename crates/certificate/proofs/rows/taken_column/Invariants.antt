@@ -7,4 +7,4 @@ use Rattle.certificate.proofs.rows.taken_column.Given as goal
 abbrev pub invariant-loop-v : goal.invariant-loop-v
 invariant-loop-v l =
     (l.sum ≡ constant (row_of l.row) l.column +ℤ sum_to l.v (λ v. row_of l.row (suc v) *ℤ row_of (get_or l.updates v []) l.column))
-    × Within (32768 + l.v * 18014398509481984) l.sum
+    × Within (32768 + l.v * 36028797018963968) l.sum

@@ -29,8 +29,8 @@ row-requires g c = omega (arith, held_length c.push_start_point.new.table)
 
 -- a value as a row
 constant_wide : (z : ℤ) → Within 2147483648 z → RowWithin wide (constant_row z)
-constant_wide z h zero = within_more 2147483648 17179869184 z (omega arith) h
-constant_wide z h (suc j) = zero_row_within 17179869184 (suc j)
+constant_wide z h zero = within_more 2147483648 34359738368 z (omega arith) h
+constant_wide z h (suc j) = zero_row_within 34359738368 (suc j)
 
 pub taken_column-requires : goal.taken_column-requires
 taken_column-requires g c =
