@@ -3,8 +3,8 @@ use Rattle.std.specs.Prelude.{◌≡◌, true, List, ℤ, vec_items}
 use Rattle.layout.specs.Cases.{run_down_cells}
 use Rattle.layout.specs.Cells.{well_formed}
 use Rattle.layout.proofs.Worked.{run_down_formed}
-use Rattle.unit.specs.declared.dossier.Dossier.{Dossier}
-use Rattle.unit.specs.declared.dossier.Dossier.TheVariants.{BuiltIn, Held}
+use Rattle.unit.specs.declared.present.Dossier.{Dossier}
+use Rattle.unit.specs.declared.present.Dossier.TheVariants.{BuiltIn, Held}
 
 abbrev pub dossier_cells : Dossier → List ℤ
 dossier_cells BuiltIn = run_down_cells

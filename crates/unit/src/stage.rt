@@ -1,6 +1,6 @@
 // How far the console has come with a dossier.
 use crate::call::Form;
-use crate::dossier::Dossier;
+use crate::present::Dossier;
 use certificate::admit::{admit_every_run, admit_some_run};
 use certificate::admitted::{Admitted, EveryRun, Refused, SomeRun};
 use certificate::kind::{OneNumber, RankKind, TwoNumbers};
