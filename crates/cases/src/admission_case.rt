@@ -100,10 +100,10 @@ pub(crate) fn admission_agrees(
     rt: &(impl Files + Print + AllocGlobal),
     line: &str,
 ) -> anyhow::Result<bool> {
-    let (name, rest) = field(line)?;
-    let (form, rest) = field(rest)?;
-    let (ranks, rest) = field(rest)?;
-    let (due, words) = field(rest)?;
+    let (name, rest) = field(line, "five")?;
+    let (form, rest) = field(rest, "five")?;
+    let (ranks, rest) = field(rest, "five")?;
+    let (due, words) = field(rest, "five")?;
     let heap = rt.alloc();
     let call = Call { form, ranks };
     let verdict = match words.trim() {

@@ -9,9 +9,9 @@ pub(crate) fn reading_agrees(
     rt: &(impl Files + Print + AllocGlobal),
     line: &str,
 ) -> anyhow::Result<bool> {
-    let (name, rest) = field(line)?;
-    let (room, rest) = field(rest)?;
-    let (due, words) = field(rest)?;
+    let (name, rest) = field(line, "four")?;
+    let (room, rest) = field(rest, "four")?;
+    let (due, words) = field(rest, "four")?;
     let heap = rt.alloc();
     let text = text_of(rt, words.trim())?;
     let outcome = Outcome::of(heap, &text, room.parse::<usize>()?)?;

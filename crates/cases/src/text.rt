@@ -5,11 +5,11 @@ use anyhow::anyhow;
 use std::fs;
 use std::rt::Files;
 
-// The first field of a line, and what follows its bar.
-pub(crate) fn field<'a>(line: &'a str) -> anyhow::Result<(&'a str, &'a str)> {
+// The first field of a line that has a count of them, and what follows its bar.
+pub(crate) fn field<'a>(line: &'a str, count: &str) -> anyhow::Result<(&'a str, &'a str)> {
     match line.split_once('|') {
         Some((field, rest)) => Ok((field.trim(), rest)),
-        None => Err(anyhow!("a case lacks a field")),
+        None => Err(anyhow!("a case has {count} fields")),
     }
 }
 

@@ -41,4 +41,4 @@ module _ (cells : List ℤ) (state letter : ℕ) where
 
 -- the test that a state has an edge for a letter
 abbrev pub letter_trial : List ℤ → ℕ → ℕ → Trial
-letter_trial cells state letter = record { passes = found (edge_for cells state letter); fault = NoEdge state letter }
+letter_trial cells state letter = record { passes = found cells (edge_for cells state letter); fault = NoEdge state letter }

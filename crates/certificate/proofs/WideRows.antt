@@ -1,5 +1,5 @@
 -- Every row that a proof line compares is within the bounds at which a line's sums are exact.
-use Rattle.std.proofs.Common.{◌≡◌, ℕ, zero, suc, ◌+◌, ◌-◌, ◌<◌, ◌≤◌, Bool, true, false, cond, eqb, List, ◌++◌, length, get_or, ℤ, pos, sym, refl, subst, ⊎_elim, arith}
+use Rattle.std.proofs.Common.{◌≡◌, ℕ, zero, suc, ◌+◌, ◌-◌, ◌<◌, ◌≤◌, Bool, true, false, cond, eqb, List, [], ◌++◌, length, get_or, ℤ, pos, sym, refl, subst, ⊎_elim, arith}
 use Rattle.std.proofs.lemmas.List.{get_or_append_left, get_or-append_right, length-append}
 use Rattle.std.proofs.lemmas.Int.{ints}
 use Rattle.std.proofs.lemmas.Bool.{cond_both}
@@ -37,17 +37,17 @@ module _ (b : ℕ) where
   minus_one_within l zero = (omega (arith, ints), omega (arith, ints))
   minus_one_within l (suc j) = (omega (arith, ints), omega (arith, ints))
 
-  demand_within : 1 ≤ b → (met : Bool) → RowWithin b (Admission.demand met)
+  demand_within : 1 ≤ b → (met : Bool) → RowWithin b (Admission.demand [] met)
   demand_within l true = zero_row_within b
   demand_within l false = minus_one_within l
 
-  impossible_within : 1 ≤ b → (n : ℕ) → RowsWithin b (Admission.impossible n)
+  impossible_within : 1 ≤ b → (n : ℕ) → RowsWithin b (Admission.impossible [] n)
   impossible_within l zero k h = absurd (omega arith)
   impossible_within l (suc n) zero h = minus_one_within l
   impossible_within l (suc n) (suc k) h = each_within n (λ _. zero_row) (λ _ _. zero_row_within b) k (omega arith)
 
-  in_mode_within : 1 ≤ b → (mode n : ℕ) (rows : List Row) → RowsWithin b rows → RowsWithin b (Admission.in_mode mode n rows)
-  in_mode_within l mode n rows h = cond_both (eqb mode 0) (Admission.impossible n) rows (RowsWithin b) (λ _. impossible_within l n) (λ _. h)
+  in_mode_within : 1 ≤ b → (mode n : ℕ) (rows : List Row) → RowsWithin b rows → RowsWithin b (Admission.in_mode [] mode n rows)
+  in_mode_within l mode n rows h = cond_both (eqb mode 0) (Admission.impossible [] n) rows (RowsWithin b) (λ _. impossible_within l n) (λ _. h)
 
 rows_more : (a b : ℕ) (rows : List Row) → a ≤ b → RowsWithin a rows → RowsWithin b rows
 rows_more a b rows l h k i = row_more a b (get_or rows k zero_row) l (h k i)
@@ -133,8 +133,8 @@ module _ (cells : List ℤ) (ranges : ProgramRanges cells) where
           (append_within wide (Admission.edge_rows cells e (step_from cells t)) _ (edge_rows_wide e (step_from cells t)) conclusions_wide)
 
       -- in a mode
-      pub claims_wide : (n : ℕ) → RowsWithin wide (Admission.in_mode mode n (Admission.move_conclusions cells kind mode t e))
+      pub claims_wide : (n : ℕ) → RowsWithin wide (Admission.in_mode cells mode n (Admission.move_conclusions cells kind mode t e))
       claims_wide n = in_mode_within wide (omega arith) mode n (Admission.move_conclusions cells kind mode t e) conclusions_wide
 
-      pub choice_claims_wide : (n : ℕ) → RowsWithin wide (Admission.in_mode mode n (Admission.choice_conclusions cells kind mode t e))
+      pub choice_claims_wide : (n : ℕ) → RowsWithin wide (Admission.in_mode cells mode n (Admission.choice_conclusions cells kind mode t e))
       choice_claims_wide n = in_mode_within wide (omega arith) mode n (Admission.choice_conclusions cells kind mode t e) choice_wide

@@ -4,7 +4,7 @@ ghost use Rattle.layout.specs.Heads.{counts_of};
 ghost use Rattle.dossier.specs.Admission.{called_by, admit_every_run, admit_some_run};
 ghost use Rattle.dossier.specs.CaseTable.{WorkedTable};
 ghost use Rattle.dossier.specs.Cases.{WorkedCases};
-ghost use Rattle.dossier.specs.Laws.{AdmittedExactly, AdmittedByTests, LineLaw};
+ghost use Rattle.dossier.specs.Laws.{AdmittedExactly, AdmittedByTests, LineLaw, OutsideLaw};
 ghost use Rattle.dossier.specs.Runs.{Endless, followed, EveryRunLaw, WatchFollows, SomeRunLaw};
 ghost use Rattle.certificate.specs.Admits.{answered, refusal_of, refusal_due};
 ghost use Rattle.certificate.specs.Outcomes.{passed};
@@ -79,6 +79,7 @@ fn every_run_verdict<S: Source, K: RankKind>(source: &S, kind: &K) -> Result<usi
     ensures by_tests { AdmittedByTests K.RankKind.kind (S.Source.cells source.now) }
     ensures promised { is_ok result ≡ true → EveryRunLaw (S.Source.cells source.now) }
     ensures follows { is_ok result ≡ true → WatchFollows (S.Source.cells source.now) }
+    ensures outside { OutsideLaw }
     ensures line_law { LineLaw }
     ensures worked { WorkedCases }
     ensures table { WorkedTable }
@@ -97,6 +98,7 @@ pub fn admit_every_run<S: Source, K: RankKind>(
     ensures by_tests { AdmittedByTests K.RankKind.kind (S.Source.cells source) }
     ensures promised { is_ok result ≡ true → EveryRunLaw (S.Source.cells source) }
     ensures follows { is_ok result ≡ true → WatchFollows (S.Source.cells source) }
+    ensures outside { OutsideLaw }
     ensures line_law { LineLaw }
     ensures worked { WorkedCases }
     ensures table { WorkedTable }

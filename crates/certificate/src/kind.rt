@@ -1,7 +1,7 @@
 // Rank kinds: how many numbers a rank has, and which fall rows each mode calls for.
 ghost use Rattle.std.specs.Prelude.{◌≡◌};
-ghost use Rattle.dossier.specs.Kinds.{Kind, Lawful, ZeroOutside, by_first_difference, fall_of};
-ghost use Rattle.dossier.proofs.KindsLaw.{kinds_law, outside_law};
+ghost use Rattle.dossier.specs.Kinds.{Kind, Lawful, by_first_difference, fall_of};
+ghost use Rattle.dossier.proofs.KindsLaw.{kinds_law};
 
 use dossier::fall::Fall;
 
@@ -18,8 +18,6 @@ pub trait RankKind {
         ensures { result ≡ kind.fall mode index };
 
     ghost lawful: { Lawful kind };
-
-    ghost outside: { ZeroOutside kind };
 }
 
 // The numbers before the one of the mode do not rise, and that one falls.
@@ -50,8 +48,6 @@ impl RankKind for OneNumber {
 
     ghost lawful = { kinds_law 1 };
 
-    ghost outside = { outside_law 1 };
-
     fn numbers(&self) -> usize {
         1
     }
@@ -69,8 +65,6 @@ impl RankKind for TwoNumbers {
     ghost kind = { by_first_difference 2 };
 
     ghost lawful = { kinds_law 2 };
-
-    ghost outside = { outside_law 2 };
 
     fn numbers(&self) -> usize {
         2

@@ -1,5 +1,5 @@
 // The rows of the lines of moves and of points: what the lines assume and what they are to show.
-ghost use Rattle.std.specs.Prelude.{◌≡◌, ◌+◌, ◌<◌, ◌≤◌, true, ◌++◌, length};
+ghost use Rattle.std.specs.Prelude.{[], ◌≡◌, ◌+◌, ◌<◌, ◌≤◌, true, ◌++◌, length};
 ghost use Rattle.layout.specs.Heads.{counts_of};
 ghost use Rattle.dossier.specs.Admission as admission;
 ghost use Rattle.dossier.specs.Dossier as view;
@@ -21,7 +21,7 @@ use sources::source::Source;
 // Pushes what lines are to show in mode 0: the row -1, then zero rows.
 fn push_impossible(count: usize, table: &mut Table)
     requires { (1 ≤ count) × (length (held table.old) + count ≤ 20) }
-    ensures { held table.new ≡ held table.old ++ admission.impossible count }
+    ensures { held table.new ≡ held table.old ++ admission.impossible [] count }
 {
     table.push(minus_one());
     push_zeros(count - 1, table);

@@ -1,5 +1,5 @@
 // The proposition rows of an edge at a place.
-ghost use Rattle.std.specs.Prelude.{◌≡◌, ◌+◌, ◌<◌, ◌≤◌, ◌++◌, length};
+ghost use Rattle.std.specs.Prelude.{[], ◌≡◌, ◌+◌, ◌<◌, ◌≤◌, ◌++◌, length};
 ghost use Rattle.layout.specs.Heads.{counts_of};
 ghost use Rattle.dossier.specs.Admission as admission;
 ghost use Rattle.dossier.specs.Dossier as view;
@@ -22,7 +22,7 @@ fn bit(mask: usize, index: usize) -> bool
 
 // A demand on the place.
 fn demand(met: bool) -> [i64; 7]
-    ensures { row_of result ≡ admission.demand met }
+    ensures { row_of result ≡ admission.demand [] met }
 {
     if met { zero_row() } else { minus_one() }
 }

@@ -13,12 +13,12 @@ use Rattle.dossier.proofs.RowValues.{zero_holds, minus_one_fails, opposite_holds
 use Rattle.dossier.proofs.Masks.{covered_bit, apart_bit, masked, letter_bit}
 
 module _ (cells : List ℤ) (xs : List ℤ) where
-  demanded : (b d : Bool) (r : Row) → holds (cond b (demand d) r) xs ≡ cond b d (holds r xs)
+  demanded : (b d : Bool) (r : Row) → holds (cond b (demand cells d) r) xs ≡ cond b d (holds r xs)
   demanded true true r = zero_holds xs
   demanded true false r = minus_one_fails xs
   demanded false d r = refl
 
-  refused : (b d : Bool) (r : Row) → holds (cond b (demand (cond d false true)) (less (negated r) 1)) xs ≡ not (cond b d (holds r xs))
+  refused : (b d : Bool) (r : Row) → holds (cond b (demand cells (cond d false true)) (less (negated r) 1)) xs ≡ not (cond b d (holds r xs))
   refused true true r = minus_one_fails xs
   refused true false r = zero_holds xs
   refused false d r = opposite_holds r xs

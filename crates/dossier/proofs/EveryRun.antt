@@ -33,7 +33,7 @@ module _ (kind : Kind) (lawful : Lawful kind) (cells : List ℤ) (formed : well_
   -- the lines of a move, by its number and by its step and edge
   abbrev trials_of : ℕ → ℕ → ℕ → List Trial
   trials_of m t e = lines cells (move_line_at (head cells) m) (move_hypotheses (head cells)) (move_hypotheses_of cells t e) (MoveLine m) 0
-      (in_mode (move_mode cells m) (conclusions (head cells)) (move_conclusions cells kind (move_mode cells m) t e))
+      (in_mode cells (move_mode cells m) (conclusions (head cells)) (move_conclusions cells kind (move_mode cells m) t e))
 
   step_edge_pass : (t e : ℕ) → t < (head cells).steps → e < (head cells).edges → AllPass (trials_of (t * (head cells).edges + e) t e)
   step_edge_pass t e h k =
@@ -68,12 +68,12 @@ module _ (kind : Kind) (lawful : Lawful kind) (cells : List ℤ) (formed : well_
       let m : ℕ = t * (head cells).edges + e in
       let below : m < (head cells).steps * (head cells).edges = digits_lt can.step_is can.edge_is in
       let rows : List Row = move_conclusions cells kind (move_mode cells m) t e in
-      let all : AllHold (in_mode (move_mode cells m) (conclusions (head cells)) rows) s.values =
+      let all : AllHold (in_mode cells (move_mode cells m) (conclusions (head cells)) rows) s.values =
       lines_hold cells (move_line_at (head cells) m) (move_hypotheses (head cells)) (move_hypotheses_of cells t e) (MoveLine m) s.values sound.sized
-      (hypotheses_hold t e s can sound) (conclusions (head cells)) (in_mode (move_mode cells m) (conclusions (head cells)) rows)
-      (length_in_mode (move_mode cells m) (conclusions (head cells)) rows (length_conclusions cells kind (move_mode cells m) t e))
+      (hypotheses_hold t e s can sound) (conclusions (head cells)) (in_mode cells (move_mode cells m) (conclusions (head cells)) rows)
+      (length_in_mode cells (move_mode cells m) (conclusions (head cells)) rows (length_conclusions cells kind (move_mode cells m) t e))
       (λ j l. ranges.move_lines m j below l) (step_edge_pass t e can.step_is can.edge_is) in
-      let p = in_mode_rows (move_mode cells m) (conclusions (head cells)) rows s.values (omega (arith, program.counts_in.rank_numbers_low)) all in
+      let p = in_mode_rows cells (move_mode cells m) (conclusions (head cells)) rows s.values (omega (arith, program.counts_in.rank_numbers_low)) all in
       subst (Moved cells kind s) (sym move.leads)
       (moved kind lawful cells parts.called.1 (move_mode cells m) t e s can.step_here can.edge_here sound p.1 p.0 (ranges.modes m below))
 

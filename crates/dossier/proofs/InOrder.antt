@@ -65,7 +65,7 @@ module _ (kind : Kind) (cells : List ℤ) where
   same_move : (t e : ℕ) → e < (head cells).edges → move_trials cells kind t e ≡ trials_of_move cells kind (t * (head cells).edges + e)
   same_move t e l =
       let m : ℕ = t * (head cells).edges + e in
-      ap₂ (λ t e. lines cells (move_line_at (head cells) m) (move_hypotheses (head cells)) (move_hypotheses_of cells t e) (MoveLine m) 0 (in_mode (move_mode cells m) (conclusions (head cells)) (move_conclusions cells kind (move_mode cells m) t e)))
+      ap₂ (λ t e. lines cells (move_line_at (head cells) m) (move_hypotheses (head cells)) (move_hypotheses_of cells t e) (MoveLine m) 0 (in_mode cells (move_mode cells m) (conclusions (head cells)) (move_conclusions cells kind (move_mode cells m) t e)))
       (sym (div-mul-add t (head cells).edges e l)) (sym (mod-mul-add t (head cells).edges e l))
 
   pub moves_in_order : flat_map (λ t. flat_map (λ e. move_trials cells kind t e) (each (head cells).edges (λ e. e))) (each (head cells).steps (λ t. t)) ≡ flat_map (trials_of_move cells kind) (each (moves cells) (λ m. m))

@@ -41,7 +41,7 @@ in_joined f c h i (suc n) = in_append (f i) (flat_map f (each_from (suc i) n (λ
 module _ (kind : Kind) (cells : List ℤ) where
   watch_none : lines_in (Admission.watch_trials cells) ≡ 0
   watch_none =
-      in_joined (Admission.state_trials cells) 0 (λ q. each_none (λ l. record { passes = Admission.found (Admission.edge_for cells q l); fault = NoEdge q l }) (λ l. refl) 0 (2 ^ (head cells).propositions)) 0 (head cells).states
+      in_joined (Admission.state_trials cells) 0 (λ q. each_none (λ l. record { passes = Admission.found cells (Admission.edge_for cells q l); fault = NoEdge q l }) (λ l. refl) 0 (2 ^ (head cells).propositions)) 0 (head cells).states
       ∙ (let e : (head cells).states * 0 ≡ 0 = omega arith in e)
 
   pub every_run_counted : Admission.every_run_lines cells ≡ lines_in (Admission.every_run_trials cells kind)

@@ -16,25 +16,25 @@ use Rattle.dossier.proofs.LineLaw.{taken_value}
 
 -- modes -------------------------------------------------------------------------------------------
 
-impossible_fails : (n : ℕ) (xs : List ℤ) → 1 ≤ n → AllHold (impossible n) xs → ⊥
-impossible_fails zero xs l h = omega arith
-impossible_fails (suc n) xs l h = subst T (minus_one_fails xs) h.0
-
-length_impossible : (n : ℕ) → length (impossible n) ≡ n
-length_impossible zero = refl
-length_impossible (suc n) = ap suc (length_each n (λ i. zero_row))
-
-module _ (mode n : ℕ) (rows : List Row) where
-  -- mode 0 cannot hold; in any other the rows do
-  pub in_mode_rows : (xs : List ℤ) → 1 ≤ n → AllHold (in_mode mode n rows) xs → (1 ≤ mode) × AllHold rows xs
-  in_mode_rows xs l =
-      cond_both (eqb mode 0) (impossible n) rows (λ rs. AllHold rs xs → (1 ≤ mode) × AllHold rows xs)
-      (λ e p. absurd (impossible_fails n xs l p)) (λ e p. (omega (arith, eqb-false mode 0 e), p))
-
-  pub length_in_mode : length rows ≡ n → length (in_mode mode n rows) ≡ n
-  length_in_mode e = cond_both (eqb mode 0) (impossible n) rows (λ rs. length rs ≡ n) (λ _. length_impossible n) (λ _. e)
-
 module _ (cells : List ℤ) where
+  impossible_fails : (n : ℕ) (xs : List ℤ) → 1 ≤ n → AllHold (impossible cells n) xs → ⊥
+  impossible_fails zero xs l h = omega arith
+  impossible_fails (suc n) xs l h = subst T (minus_one_fails xs) h.0
+
+  length_impossible : (n : ℕ) → length (impossible cells n) ≡ n
+  length_impossible zero = refl
+  length_impossible (suc n) = ap suc (length_each n (λ i. zero_row))
+
+  module _ (mode n : ℕ) (rows : List Row) where
+    -- mode 0 cannot hold; in any other the rows do
+    pub in_mode_rows : (xs : List ℤ) → 1 ≤ n → AllHold (in_mode cells mode n rows) xs → (1 ≤ mode) × AllHold rows xs
+    in_mode_rows xs l =
+        cond_both (eqb mode 0) (impossible cells n) rows (λ rs. AllHold rs xs → (1 ≤ mode) × AllHold rows xs)
+        (λ e p. absurd (impossible_fails n xs l p)) (λ e p. (omega (arith, eqb-false mode 0 e), p))
+
+    pub length_in_mode : length rows ≡ n → length (in_mode cells mode n rows) ≡ n
+    length_in_mode e = cond_both (eqb mode 0) (impossible cells n) rows (λ rs. length rs ≡ n) (λ _. length_impossible n) (λ _. e)
+
   pub length_conclusions : (kind : Kind) (mode t e : ℕ) → length (move_conclusions cells kind mode t e) ≡ conclusions (head cells)
   length_conclusions kind mode t e = simp (length-append, length_each) (omega arith)
 

@@ -90,18 +90,18 @@ module _ (kind : Kind) (lawful : Lawful kind) (cells : List ℤ) (formed : well_
       let ends : List Row = move_conclusions cells kind mode t e in
       let rows : List Row = choice_conclusions cells kind mode t e in
       let n : ℕ = point_conclusions (head cells) in
-      let all : AllHold (in_mode mode n rows) xs =
+      let all : AllHold (in_mode cells mode n rows) xs =
       lines_hold cells (point_line_at (head cells) p) (point_rows (head cells)) (point_hypotheses cells p) (PointLine p) xs sound.sized
-      (within_rows cells s sound.within) n (in_mode mode n rows) (length_point_claims cells kind p) (λ k l. ranges.point_lines p k below l) passes.1.1 in
-      let in_mode = in_mode_rows mode n rows xs (omega (arith, program.counts_in.rank_numbers_low)) all in
-      let guarded = hold_append (guard_rows cells t) (edge_rows cells e (step_from cells t) ++ ends) xs in_mode.1 in
+      (within_rows cells s sound.within) n (in_mode cells mode n rows) (length_point_claims cells kind p) (λ k l. ranges.point_lines p k below l) passes.1.1 in
+      let mode_shown = in_mode_rows cells mode n rows xs (omega (arith, program.counts_in.rank_numbers_low)) all in
+      let guarded = hold_append (guard_rows cells t) (edge_rows cells e (step_from cells t) ++ ends) xs mode_shown.1 in
       let edged = hold_append (edge_rows cells e (step_from cells t)) ends xs guarded.1 in
       let step_here : step_from cells t ≡ s.place =
-      unskipped mode (step_from cells t) (p / (head cells).states) in_mode.0 passes.0 ∙ div-mul-add s.place (head cells).states s.state stands.state_below in
+      unskipped mode (step_from cells t) (p / (head cells).states) mode_shown.0 passes.0 ∙ div-mul-add s.place (head cells).states s.state stands.state_below in
       let edge_here : edge_from cells e ≡ s.state =
-      unskipped mode (edge_from cells e) (p % (head cells).states) in_mode.0 passes.1.0 ∙ mod-mul-add s.place (head cells).states s.state stands.state_below in
+      unskipped mode (edge_from cells e) (p % (head cells).states) mode_shown.0 passes.1.0 ∙ mod-mul-add s.place (head cells).states s.state stands.state_below in
       record {
-        mode_low = in_mode.0;
+        mode_low = mode_shown.0;
         can = record {
           step_is = ranges.steps p below;
           step_here = step_here;
@@ -112,7 +112,7 @@ module _ (kind : Kind) (lawful : Lawful kind) (cells : List ℤ) (formed : well_
               (subst (λ q. (i : ℕ) → i < (head cells).propositions → T (holds (edge_row cells e q i) xs)) step_here
               (hold_each (head cells).propositions (edge_row cells e (step_from cells t)) xs edged.0));
         };
-        goes = moved kind lawful cells parts.called.1 mode t e s step_here edge_here sound edged.1 in_mode.0 (ranges.modes p below);
+        goes = moved kind lawful cells parts.called.1 mode t e s step_here edge_here sound edged.1 mode_shown.0 (ranges.modes p below);
       }
 
   stands : (i : ℕ) → Stands (followed cells i)

@@ -54,28 +54,28 @@ module _ (cells : List ℤ) (q l : ℕ) where
   abbrev Edge : ℕ → Type 0
   Edge n = (e : ℕ) × (e < n) × (edge_from cells e ≡ q) × T (matches cells e l)
 
-  found_edge : (n e : ℕ) → T (Admission.found (Admission.edge_from_on cells n e q l)) → Edge (e + n)
+  found_edge : (n e : ℕ) → T (Admission.found cells (Admission.edge_from_on cells n e q l)) → Edge (e + n)
   found_edge zero e h = absurd h
   found_edge (suc n) e h = elim (cases_Bool (goes e)) [
     | inl is ↦
         let t = of_true _ is in
         (e, omega arith, eqb→eq _ _ (both_left _ _ t), both_right (eqb (edge_from cells e) q) _ t)
-    | inr not ↦ subst Edge (omega arith) (found_edge n (suc e) (subst (λ b. T (Admission.found (cond b (Some e) (Admission.edge_from_on cells n (suc e) q l)))) not h))
+    | inr not ↦ subst Edge (omega arith) (found_edge n (suc e) (subst (λ b. T (Admission.found cells (cond b (Some e) (Admission.edge_from_on cells n (suc e) q l)))) not h))
   ]
 
-  edge_found : (n e i : ℕ) → e ≤ i → i < e + n → T (goes i) → T (Admission.found (Admission.edge_from_on cells n e q l))
+  edge_found : (n e i : ℕ) → e ≤ i → i < e + n → T (goes i) → T (Admission.found cells (Admission.edge_from_on cells n e q l))
   edge_found zero e i low high h = absurd (omega arith)
   edge_found (suc n) e i low high h = elim (cases_Bool (goes e)) [
-    | inl is ↦ subst (λ b. T (Admission.found (cond b (Some e) (Admission.edge_from_on cells n (suc e) q l)))) (sym is) tt
+    | inl is ↦ subst (λ b. T (Admission.found cells (cond b (Some e) (Admission.edge_from_on cells n (suc e) q l)))) (sym is) tt
     | inr not ↦
-        subst (λ b. T (Admission.found (cond b (Some e) (Admission.edge_from_on cells n (suc e) q l)))) (sym not)
+        subst (λ b. T (Admission.found cells (cond b (Some e) (Admission.edge_from_on cells n (suc e) q l)))) (sym not)
         (⊎_elim (λ same. absurd (subst T not (subst (λ j. T (goes j)) (sym same) h))) (λ apart. edge_found n (suc e) i (omega arith) (omega arith) h) (cases_eq e i))
   ]
 
-  goes_on : T (Admission.found (Admission.edge_for cells q l)) → GoesOn cells q l
+  goes_on : T (Admission.found cells (Admission.edge_for cells q l)) → GoesOn cells q l
   goes_on h = subst Edge (zero-add (head cells).edges) (found_edge (head cells).edges 0 h)
 
-  gone_on : GoesOn cells q l → T (Admission.found (Admission.edge_for cells q l))
+  gone_on : GoesOn cells q l → T (Admission.found cells (Admission.edge_for cells q l))
   gone_on (e, below, from, fits) = edge_found (head cells).edges 0 e (omega arith) (omega arith) (both_from _ _ (of_true _ (eq-eqb _ _ from)) fits)
 
 -- the parts of the tests ----------------------------------------------------------------------------
@@ -90,7 +90,7 @@ module _ (cells : List ℤ) where
         let mode = move_mode cells m in
         let t = Admission.move_step cells m in
         let e = Admission.move_edge cells m in
-        length_in_mode mode (conclusions (head cells)) (Admission.move_conclusions cells kind mode t e) (length_conclusions cells kind mode t e)
+        length_in_mode cells mode (conclusions (head cells)) (Admission.move_conclusions cells kind mode t e) (length_conclusions cells kind mode t e)
 
     length_choice : (mode t e : ℕ) → length (Admission.choice_conclusions cells kind mode t e) ≡ point_conclusions (head cells)
     length_choice mode t e = simp (length-append, length_each) (omega arith)
@@ -100,13 +100,13 @@ module _ (cells : List ℤ) where
         let mode = choice_mode cells p in
         let t = choice_step cells p in
         let e = choice_edge cells p in
-        length_in_mode mode (point_conclusions (head cells)) (Admission.choice_conclusions cells kind mode t e) (length_choice mode t e)
+        length_in_mode cells mode (point_conclusions (head cells)) (Admission.choice_conclusions cells kind mode t e) (length_choice mode t e)
 
   both_called : (form numbers : ℕ) → (head cells).form ≡ form → (head cells).rank_numbers ≡ numbers → T (Admission.called_for cells form numbers).passes
   both_called form numbers p q = both_from _ _ (of_true _ (eq-eqb _ _ p)) (of_true _ (eq-eqb _ _ q))
 
   abbrev letter_trial : ℕ → ℕ → Admission.Trial
-  letter_trial q l = record { passes = Admission.found (Admission.edge_for cells q l); fault = NoEdge q l }
+  letter_trial q l = record { passes = Admission.found cells (Admission.edge_for cells q l); fault = NoEdge q l }
 
   row_trials_hold : (i : ℕ) (rs : List Row) → AllPass (Admission.row_trials cells i rs) → AllHold rs (Admission.shown_values cells)
   row_trials_hold i [] h = tt

@@ -24,29 +24,17 @@ abbrev pub verdict : ℕ → Option AdmitFault → Result ℕ AdmitFault
 verdict lines None = Ok lines
 verdict lines (Some fault) = Err fault
 
--- a demand on the place: the zero row where it is met, else the row −1
-abbrev pub demand : Bool → Row
-demand true = zero_row
-demand false = minus_one
-
--- in mode 0 the first conclusion is the row −1, and every other is the zero row
-abbrev pub impossible : ℕ → List Row
-impossible zero = []
-impossible (suc n) = minus_one ∷ each n (λ i. zero_row)
-
-abbrev pub in_mode : ℕ → ℕ → List Row → List Row
-in_mode mode n rows = cond (mode == 0) (impossible n) rows
-
 -- form and count of rank numbers are those called for
 abbrev pub called_by : Counts → ℕ → ℕ → Trial
 called_by h form numbers = record { passes = both (h.form == form) (h.rank_numbers == numbers); fault = Other h.form h.rank_numbers }
 
-abbrev pub found : Option ℕ → Bool
-found None = false
-found (Some e) = true
-
 module _ (cells : List ℤ) where
   -- rows of an edge's propositions at a place --------------------------------------------------
+
+  -- a demand on the place: the zero row where it is met, else the row −1
+  abbrev pub demand : Bool → Row
+  demand true = zero_row
+  demand false = minus_one
 
   abbrev pub wanted : ℕ → ℕ → Row
   wanted place i = cond (is_place cells i) (demand (place == proposition_place cells i)) (proposition_row cells i)
@@ -98,6 +86,14 @@ module _ (cells : List ℤ) where
         each (head cells).region_rows (λ i. at_step t (region_row cells (last_point t e) i)) ++
         (each (head cells).rank_numbers (λ k. at_step t (rank_row cells (last_point t e) k)) ++ fall_rows mode t e)
 
+  -- in mode 0 the first conclusion is the row −1, and every other is the zero row
+  abbrev pub impossible : ℕ → List Row
+  impossible zero = []
+  impossible (suc n) = minus_one ∷ each n (λ i. zero_row)
+
+  abbrev pub in_mode : ℕ → ℕ → List Row → List Row
+  in_mode mode n rows = cond (mode == 0) (impossible n) rows
+
   -- what the lines of move m are to show
   abbrev pub move_step : ℕ → ℕ
   move_step m = m / (head cells).edges
@@ -138,6 +134,10 @@ module _ (cells : List ℤ) where
 
   abbrev pub edge_for : ℕ → ℕ → Option ℕ
   edge_for state l = edge_from_on (head cells).edges 0 state l
+
+  abbrev pub found : Option ℕ → Bool
+  found None = false
+  found (Some e) = true
 
   -- a watch state with every letter, and every watch state
   abbrev pub state_trials : ℕ → List Trial

@@ -11,8 +11,8 @@ pub(crate) const RUN_DOWN: [i32; 37] = [
     1, 0, 1, 1, 0, 0,
 ];
 
-// The built-in dossier, from a constant table. Like a sheet it moves.
-#[derive(Drop)]
+// The built-in dossier, from a constant table.
+#[derive(Clone, Copy)]
 pub struct BuiltIn;
 
 impl Source for BuiltIn {

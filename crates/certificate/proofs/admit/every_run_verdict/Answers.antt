@@ -1,4 +1,5 @@
 use Rattle.std.proofs.Common.{sym, ◌∙◌}
+use Rattle.dossier.proofs.KindsLaw.{outside_law}
 use Rattle.dossier.proofs.LineLaw.{line_law}
 use Rattle.dossier.proofs.Worked.{worked}
 use Rattle.dossier.proofs.WorkedTable.{worked_table}
@@ -16,6 +17,7 @@ returns g c =
       by_tests = by_tests_law kind cells;
       promised = if_ok c.judge_every_run.result (λ n e. every_run_theorem kind g.met.K.RankKind.lawful cells (g.S.Source.formed c.args.source.now) n (sym c.judge_every_run.ensures ∙ e));
       follows = if_ok c.judge_every_run.result (λ n e. follows_theorem kind g.met.K.RankKind.lawful cells (g.S.Source.formed c.args.source.now) n (sym c.judge_every_run.ensures ∙ e));
+      outside = outside_law;
       line_law = line_law;
       worked = worked;
       table = worked_table;

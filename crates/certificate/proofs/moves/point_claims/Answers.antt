@@ -52,4 +52,4 @@ returns-else-mode-eq0 g c =
     c.choice_claims.ensures
     ∙ ap (λ m. admission.choice_conclusions cells kind m c.number-step.result c.number-edge.result) mode
     ∙ ap₂ (admission.choice_conclusions cells kind (view.choice_mode cells p)) step edge
-    ∙ sym (ap (λ b. cond b (admission.impossible (view.point_conclusions (view.head cells))) (admission.choice_conclusions cells kind (view.choice_mode cells p) (view.choice_step cells p) (view.choice_edge cells p))) some)
+    ∙ sym (ap (λ b. cond b (admission.impossible cells (view.point_conclusions (view.head cells))) (admission.choice_conclusions cells kind (view.choice_mode cells p) (view.choice_step cells p) (view.choice_edge cells p))) some)

@@ -16,4 +16,4 @@ returns c =
     c.push_zeros.ensures
     ∙ ap (λ rows. rows ++ zeros) (c.push.ensures ∙ ap (λ r. base ++ r ∷ []) c.minus_one.ensures)
     ∙ append_assoc base (minus_one ∷ []) zeros
-    ∙ ap (λ n. base ++ impossible n) count
+    ∙ ap (λ n. base ++ impossible [] n) count

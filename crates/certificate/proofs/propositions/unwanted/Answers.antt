@@ -30,4 +30,4 @@ returns-else-number-eq1 g c =
     let type = c.number.ensures.0 ∙ ap (view.number cells) at in
     let other : view.is_place cells c.args.index ≡ false = ne_eqb _ 1 (λ e. c.if-number-eq1.false (type ∙ e)) in
     c.difference.ensures ∙ ap₂ (λ z r. less (difference z r) 1) c.zero_row.ensures row ∙ opposite (view.proposition_row cells c.args.index)
-    ∙ sym (ap (λ b. cond b (admission.demand (cond (eqb c.args.place (view.proposition_place cells c.args.index)) false true)) (less (negated (view.proposition_row cells c.args.index)) 1)) other)
+    ∙ sym (ap (λ b. cond b (admission.demand (g.S.Source.cells c.args.source.now) (cond (eqb c.args.place (view.proposition_place cells c.args.index)) false true)) (less (negated (view.proposition_row cells c.args.index)) 1)) other)

@@ -19,13 +19,13 @@ pub returns-in_default : goal.returns-in_default
 returns-in_default g c =
     let cells = g.S.Source.cells c.args.source.now in
     let letters = bound c.args.head.now.propositions (view.head cells).propositions (omega arith) (ap (λ h. h.propositions) c.requires) in
-    left_fails (2 ^ (view.head cells).propositions) (letter_trial cells c.args.state) c.loop-letter.letter (omega arith) (ap (admission.found) (sym c.in_default.ensures)) c.loop-letter.invariant
+    left_fails (2 ^ (view.head cells).propositions) (letter_trial cells c.args.state) c.loop-letter.letter (omega arith) (ap (admission.found (g.S.Source.cells c.args.source.now)) (sym c.in_default.ensures)) c.loop-letter.invariant
 
 pub loop-letter-preserved : goal.loop-letter-preserved
 loop-letter-preserved g c =
     let cells = g.S.Source.cells c.args.source.now in
     let letters = bound c.args.head.now.propositions (view.head cells).propositions (omega arith) (ap (λ h. h.propositions) c.requires) in
-    left_more (2 ^ (view.head cells).propositions) (letter_trial cells c.args.state) c.loop-letter.letter (omega arith) (ap (admission.found) (sym c.in-Some.ensures)) c.loop-letter.invariant
+    left_more (2 ^ (view.head cells).propositions) (letter_trial cells c.args.state) c.loop-letter.letter (omega arith) (ap (admission.found (g.S.Source.cells c.args.source.now)) (sym c.in-Some.ensures)) c.loop-letter.invariant
 
 pub returns : goal.returns
 returns g c =
