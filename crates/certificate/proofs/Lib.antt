@@ -11,6 +11,7 @@ pub mod FallRows
 pub mod Fill
 pub mod Groups
 pub mod HypothesisRows
+pub mod Narrower
 pub mod Numbered
 pub mod Places
 pub mod RowBounds

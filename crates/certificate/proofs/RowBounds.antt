@@ -1,5 +1,5 @@
 -- Bounds of the rows that proof lines compare, from the ranges of a well-formed list's cells.
-use Rattle.std.proofs.Common.{◌≡◌, ℕ, zero, suc, ◌+◌, ◌*◌, ◌<◌, ◌≤◌, cond, List, [], get_or, ℤ, pos, negsuc, ◌+ℤ◌, ◌*ℤ◌, ◌≤ℤ◌, sym, refl, ap, ◌∙◌, subst, ap₂, ⊎_elim, suc-mul, zero-mul, arith, le-ltb, lt-ltb, le-leb}
+use Rattle.std.proofs.Common.{◌≡◌, ℕ, zero, suc, ◌+◌, ◌*◌, ◌<◌, ◌≤◌, Bool, true, false, cond, ltb, List, [], get_or, ℤ, pos, negsuc, ◌+ℤ◌, ◌*ℤ◌, ◌≤ℤ◌, sym, refl, ap, ◌∙◌, subst, ap₂, ⊎_elim, suc-mul, zero-mul, arith, le-ltb, lt-ltb, le-leb}
 use lib.IntN.{*ℤ-zero}
 use lib.Signed.{le_z, le_z_yes}
 use borrow.Author.Tests.{lt-leb}
@@ -27,13 +27,20 @@ module _ (cells : List ℤ) where
   row_beyond : (i j : ℕ) → (head cells).variables < j → row_at cells i j ≡ pos 0
   row_beyond i j l = ap (λ t. cond t (cell cells (i + j)) (pos 0)) (lt-leb j (head cells).variables l)
 
-  pub row_short : (i : ℕ) → SmallRow cells i → RowWithin short (row_at cells i)
-  row_short i small j =
-      ⊎_elim (λ (l : (head cells).variables < j). subst (Within short) (sym (row_beyond i j l)) (zero_within 32768)) (λ (l : j ≤ (head cells).variables).
+  -- the numbers of a row as a sheet has them
+  abbrev Sixteen : ℤ → Type 0
+  Sixteen z = (negsuc 32767 ≤ℤ z) × (z ≤ℤ pos 32767)
+
+  pub row_small : (i : ℕ) → SmallRow cells i → (j : ℕ) → Sixteen (row_at cells i j)
+  row_small i small j =
+      ⊎_elim (λ (l : (head cells).variables < j). subst Sixteen (sym (row_beyond i j l)) (omega (arith, ints), omega (arith, ints))) (λ (l : j ≤ (head cells).variables).
       let is : row_at cells i j ≡ cell cells (i + j) = ap (λ t. cond t (cell cells (i + j)) (pos 0)) (le-leb j (head cells).variables l) in
       let h = small j l in
-      subst (Within short) (sym is) (le_z_yes (both_left _ _ h), near (cell cells (i + j)) (le_z_yes (both_right (le_z (negsuc 32767) (cell cells (i + j))) _ h))))
+      subst Sixteen (sym is) (le_z_yes (both_left _ _ h), le_z_yes (both_right (le_z (negsuc 32767) (cell cells (i + j))) _ h)))
       (order (head cells).variables j)
+
+  pub row_short : (i : ℕ) → SmallRow cells i → RowWithin short (row_at cells i)
+  row_short i small j = let s = row_small i small j in (s.0, near (row_at cells i j) s.1)
     where
       near : (z : ℤ) → z ≤ℤ pos 32767 → z ≤ℤ pos 32768
       near z h = omega (arith, ints)
@@ -56,17 +63,28 @@ constant_within : (b : ℕ) (r : Row) (j : ℕ) → RowWithin b r → Within b (
 constant_within b r zero h = h 0
 constant_within b r (suc j) h = zero_within b
 
+-- a row over at most six variables, each replaced by a row of a sheet
+pub taken_within : (n : ℕ) (r : Row) (us : ℕ → Row) → n ≤ 6 → RowWithin short r → ((v : ℕ) → v < n → RowWithin short (us v)) → RowWithin long (taken n r us)
+taken_within n r us few h k j =
+    let most : n * 1073741824 ≤ 6 * 1073741824 = omega (arith, few) in
+    within_more (32768 + n * 1073741824) 8589934592 (taken n r us j) (omega arith)
+    (sum_within 32768 (n * 1073741824) (constant r j) (sum_to n (λ v. r (suc v) *ℤ us v j)) (constant_within 32768 r j h)
+    (sum_to_within 1073741824 n (λ v. r (suc v) *ℤ us v j) (λ v l. product_within 32768 32768 (r (suc v)) (us v j) (h (suc v)) (k v l j))))
+
+-- the same of the columns that the code holds
+pub seven_within : (b : ℕ) (r : Row) → RowWithin b r → RowWithin b (seven r)
+seven_within b r h j = go (ltb j 7)
+  where
+    go : (t : Bool) → Within b (cond t (r j) (pos 0))
+    go true = h j
+    go false = zero_within b
+
 module _ (cells : List ℤ) (ranges : ProgramRanges cells) (t : ℕ) (here : t < (head cells).steps) where
   pub update_short : (v : ℕ) → v < (head cells).variables → RowWithin short (update cells t v)
   update_short v l = row_short cells _ (ranges.updates t v here l)
 
   pub taken_long : (r : Row) → RowWithin short r → RowWithin long (at_step cells t r)
-  taken_long r h j =
-      let n = (head cells).variables in
-      let few : n * 1073741824 ≤ 6 * 1073741824 = omega (arith, ranges.counts_in.variables_high) in
-      within_more (32768 + n * 1073741824) 8589934592 (at_step cells t r j) (omega arith)
-      (sum_within 32768 (n * 1073741824) (constant r j) (sum_to n (λ v. r (suc v) *ℤ update cells t v j)) (constant_within 32768 r j h)
-      (sum_to_within 1073741824 n (λ v. r (suc v) *ℤ update cells t v j) (λ v l. product_within 32768 32768 (r (suc v)) (update cells t v j) (h (suc v)) (update_short v l j))))
+  taken_long r h = taken_within (head cells).variables r (update cells t) ranges.counts_in.variables_high h update_short
 
   -- beyond the seventh column a row that is taken is 0
   taken_beyond : (r : Row) (j : ℕ) → 7 ≤ j → at_step cells t r j ≡ pos 0

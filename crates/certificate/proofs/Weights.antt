@@ -6,7 +6,7 @@ use Rattle.layout.specs.Cells.{between}
 use Rattle.layout.proofs.Count.{both_left, both_right}
 use Rattle.dossier.specs.Rows.{each}
 use Rattle.dossier.proofs.Trials.{length_each, getD_each}
-use Rattle.certificate.specs.Arrays.{rows_of, held, RowsWithin, wide, Weighted}
+use Rattle.certificate.specs.Arrays.{rows_of, held, RowsWithin, wide, Multiplied}
 use Rattle.certificate.specs.declared.table.Table.{Table}
 use Rattle.certificate.proofs.Tables.{held_length}
 use Rattle.certificate.proofs.Fill.{Filled}
@@ -22,7 +22,7 @@ filled_front xs n f room h =
 pub table_factors : (t : Table) (xs : List ℤ) (j : ℕ) (f : ℕ → ℤ) → j ≡ t.count → t.count ≤ length xs → Filled xs j f → take (t.count - 0) xs ≡ each (length (held t)) f
 table_factors t xs j f e room h = ap (λ m. take m xs) (omega arith) ∙ filled_front xs t.count f room (subst (λ m. Filled xs m f) e h) ∙ ap (λ n. each n f) (sym (held_length t))
 
-pub weighted : (n : ℕ) (f : ℕ → ℤ) (rows : List (List ℤ)) → n ≡ length rows → n ≤ 18 → ((k : ℕ) → k < n → T (between (pos 0) (pos 1048575) (f k))) → RowsWithin wide (rows_of rows) → Weighted (each n f) rows
+pub weighted : (n : ℕ) (f : ℕ → ℤ) (rows : List (List ℤ)) → n ≡ length rows → n ≤ 18 → ((k : ℕ) → k < n → T (between (pos 0) (pos 1048575) (f k))) → RowsWithin wide (rows_of rows) → Multiplied (each n f) rows
 weighted n f rows long few factors bounded = record {
   long = length_each n f ∙ long;
   few = omega (arith, length_each n f);

@@ -3,7 +3,8 @@ ghost use Rattle.std.specs.Prelude.{◌≡◌, ◌^◌, ◌<◌, ◌≤◌, pos,
 ghost use Rattle.layout.specs.Heads.{counts_of};
 ghost use Rattle.layout.specs.Layout.{InRanges, count_of};
 ghost use Rattle.dossier.specs.Dossier as view;
-ghost use Rattle.certificate.specs.Arrays.{row_of};
+ghost use Rattle.dossier.specs.Ranges.{SmallRow};
+ghost use Rattle.certificate.specs.Arrays.{row_of, Short};
 
 use layout::head::Head;
 use sources::source::Source;
@@ -54,7 +55,8 @@ pub(crate) fn head<S: Source>(source: &S) -> Head
 // The row whose constant stands at an index.
 pub(crate) fn row_at<S: Source>(source: &S, head: &Head, at: usize) -> [i64; 7]
     requires { (counts_of head.now ≡ view.head (S.Source.cells source.now)) × (at < 2 ^ 32) }
-    ensures { row_of result ≡ view.row_at (S.Source.cells source.now) at }
+    ensures value { row_of result ≡ view.row_at (S.Source.cells source.now) at }
+    ensures small { SmallRow (S.Source.cells source.now) at → Short result }
 {
     let mut row = [0; 7];
     for j in 0..head.variables as usize + 1 {

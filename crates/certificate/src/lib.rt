@@ -1,4 +1,4 @@
-// The admission of dossiers of any source at any rank kind.
+// Rank kinds, and the admission of dossiers of any source at any rank kind.
 #![tactic(auto)]
 
 pub mod admit;

@@ -1,20 +1,23 @@
 // The test of a proof line.
-ghost use Rattle.std.specs.Prelude.{◌≡◌, ◌<◌, ◌≤◌, pos, ◌*ℤ◌, ◌≤ℤ◌};
+ghost use Rattle.std.specs.Prelude.{◌≡◌, ℕ, ◌*◌, ◌<◌, ◌≤◌, pos, negsuc, ◌*ℤ◌, ◌≤ℤ◌};
 ghost use Rattle.dossier.specs.Lines.{sums, line_holds};
-ghost use Rattle.certificate.specs.Arrays.{row_of, rows_of, Within, RowWithin, Weighted, wide};
+ghost use Rattle.certificate.specs.Arrays.{row_of, rows_of, Within, RowWithin, Weighted, Multiplied, wide};
 
 // A multiplier, a divisor or a coefficient times a number of a row.
 pub(crate) fn product(factor: i64, number: i64) -> i64
     requires { (Within 1048576 factor) × (Within wide number) }
-    ensures { (result ≡ factor *ℤ number) × (Within 36028797018963968 result) }
+    ensures value { result ≡ factor *ℤ number }
+    ensures bounded { Within 36028797018963968 result }
+    ensures within { (a b : ℕ) → Within a factor → Within b number → Within (a * b) result }
 {
     factor * number
 }
 
 // The sum of multipliers times hypotheses, in a column.
 fn column_sum(multipliers: &[i64], hypotheses: &[[i64; 7]], column: usize) -> i64
-    requires { (column < 7) × (Weighted multipliers.now hypotheses.now) }
-    ensures { result ≡ sums multipliers.now (rows_of hypotheses.now) column }
+    requires { (column < 7) × (Multiplied multipliers.now hypotheses.now) }
+    ensures value { result ≡ sums multipliers.now (rows_of hypotheses.now) column }
+    ensures bounded { Weighted multipliers.now hypotheses.now → (negsuc 2473901162495 ≤ℤ result) × (result ≤ℤ pos 2473901162496) }
 {
     let mut sum = 0;
     for k in 0..multipliers.len() {
@@ -32,7 +35,7 @@ pub(crate) fn line_holds(
     hypotheses: &[[i64; 7]],
     conclusion: &[i64; 7],
 ) -> bool
-    requires { (variables ≤ 6) × (((pos 0 ≤ℤ divisor) × (divisor ≤ℤ pos 1048575)) × ((Weighted multipliers.now hypotheses.now) × (RowWithin wide (row_of conclusion.now)))) }
+    requires { (variables ≤ 6) × (((pos 0 ≤ℤ divisor) × (divisor ≤ℤ pos 1048575)) × ((Multiplied multipliers.now hypotheses.now) × (RowWithin wide (row_of conclusion.now)))) }
     ensures { result ≡ line_holds variables divisor multipliers.now (rows_of hypotheses.now) (row_of conclusion.now) }
 {
     for j in 0..variables {

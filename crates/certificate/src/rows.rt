@@ -1,7 +1,7 @@
 // Rows that are made of others.
-ghost use Rattle.std.specs.Prelude.{◌≡◌, ℕ, ◌<◌, ◌≤◌, [], length, slice_index_or};
+ghost use Rattle.std.specs.Prelude.{◌≡◌, ℕ, ◌<◌, ◌≤◌, [], length, pos, negsuc, ◌≤ℤ◌, slice_index_or};
 ghost use Rattle.dossier.specs.Rows as rows;
-ghost use Rattle.certificate.specs.Arrays.{row_of, RowWithin, seven, short, long, wide};
+ghost use Rattle.certificate.specs.Arrays.{row_of, RowWithin, Short, AllShort, Wide, Agrees, seven, short, long, wide};
 
 use crate::line::product;
 
@@ -13,7 +13,8 @@ pub(crate) fn zero_row() -> [i64; 7]
 
 // The row -1.
 pub(crate) fn minus_one() -> [i64; 7]
-    ensures { row_of result ≡ rows.minus_one }
+    ensures value { row_of result ≡ rows.minus_one }
+    ensures small { Short result }
 {
     [-1, 0, 0, 0, 0, 0, 0]
 }
@@ -39,7 +40,8 @@ pub(crate) fn taken_column(
     column: usize,
 ) -> i64
     requires { (variables ≤ 6) × ((column < 7) × ((RowWithin short (row_of row.now)) × (((v : ℕ) → v < variables → RowWithin wide (row_of (slice_index_or updates.now v [])))))) }
-    ensures { result ≡ rows.taken variables (row_of row.now) (λ v. row_of (slice_index_or updates.now v [])) column }
+    ensures value { result ≡ rows.taken variables (row_of row.now) (λ v. row_of (slice_index_or updates.now v [])) column }
+    ensures bounded { AllShort updates.now → (negsuc 34359738367 ≤ℤ result) × (result ≤ℤ pos 34359738368) }
 {
     let mut sum = if column == 0 { row[0] } else { 0 };
     for v in 0..variables {
@@ -52,7 +54,9 @@ pub(crate) fn taken_column(
 // A row with each variable replaced by its update row.
 pub(crate) fn taken(variables: usize, row: &[i64; 7], updates: &[[i64; 7]; 6]) -> [i64; 7]
     requires { (variables ≤ 6) × ((RowWithin short (row_of row.now)) × (((v : ℕ) → v < variables → RowWithin short (row_of (slice_index_or updates.now v []))))) }
-    ensures { row_of result ≡ seven (rows.taken variables (row_of row.now) (λ v. row_of (slice_index_or updates.now v []))) }
+    ensures value { row_of result ≡ seven (rows.taken variables (row_of row.now) (λ v. row_of (slice_index_or updates.now v []))) }
+    ensures agrees { Agrees result (rows.taken variables (row_of row.now) (λ v. row_of (slice_index_or updates.now v []))) }
+    ensures bounded { AllShort updates.now → Wide result }
 {
     let mut result = [0; 7];
     for j in 0..7 {

@@ -15,4 +15,4 @@ loop-i-preserved g c =
     let cells = g.S.Source.cells c.args.source.now in
     let width = c.row_width-width.ensures.0 ∙ ap view.row_width c.requires.0 in
     pushed (held c.args.table.now) (held c.loop-i.table) c.loop-i.i (stored_row cells c.args.at) c.loop-i.invariant
-    _ _ c.push.ensures (c.row_at.ensures ∙ ap (λ w. view.row_at cells (c.args.at + c.loop-i.i * w)) width)
+    _ _ c.push.ensures (c.row_at.ensures.value ∙ ap (λ w. view.row_at cells (c.args.at + c.loop-i.i * w)) width)

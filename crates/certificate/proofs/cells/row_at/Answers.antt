@@ -1,7 +1,8 @@
-use Rattle.std.proofs.Common.{◌≡◌, ℕ, ◌+◌, cond, ltb, leb, get_or, pos, ap, ◌∙◌, arith, length-set, w32, w64, SFits, to_z, of_z, rules}
+use Rattle.std.proofs.Common.{◌≡◌, ℕ, ◌+◌, cond, ltb, leb, get_or, pos, negsuc, ◌≤ℤ◌, sym, ap, ◌∙◌, subst, arith, length-set, w32, w64, SFits, to_z, of_z, rules}
 use Rattle.std.proofs.lemmas.Int.{to_z-of_z}
 use Rattle.dossier.specs.Dossier as view
 use Rattle.certificate.proofs.Fill.{filled_more, up_to}
+use Rattle.certificate.proofs.RowBounds.{row_small}
 use Rattle.certificate.proofs.cells.row_at.Given as given
 use Rattle.certificate.proofs.cells.row_at.Goals as goal
 
@@ -21,4 +22,7 @@ columns g c k =
     ∙ ap (λ t. cond t (view.cell cells (c.args.at + k)) (pos 0)) (ap (ltb k) last ∙ up_to k c.args.head.now.variables ∙ ap (λ h. leb k h.variables) c.requires.0)
 
 pub returns : goal.returns
-returns g c i k = columns g c k i
+returns g c = record {
+  value = λ i k. columns g c k i;
+  small = λ s k. subst (λ z. (negsuc 32767 ≤ℤ z) × (z ≤ℤ pos 32767)) (sym (columns g c k)) (row_small (g.S.Source.cells c.args.source.now) c.args.at s k);
+}

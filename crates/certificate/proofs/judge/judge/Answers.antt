@@ -6,7 +6,7 @@ use Rattle.layout.proofs.Count.{both_left, both_right}
 use Rattle.dossier.specs.Dossier as view
 use Rattle.dossier.specs.Lines.{line_holds}
 use Rattle.dossier.specs.Rows.{Row}
-use Rattle.certificate.specs.Arrays.{row_of, rows_of, held, Weighted}
+use Rattle.certificate.specs.Arrays.{row_of, rows_of, held, Multiplied}
 use Rattle.certificate.proofs.Tables.{held_length}
 use Rattle.certificate.proofs.Fill.{filled_more}
 use Rattle.certificate.proofs.Weights.{table_factors, weighted}
@@ -46,8 +46,8 @@ line_holds-requires g c =
       (
         (simp to_z-of_z (omega (arith, ints, is)), simp to_z-of_z (omega (arith, ints, is))),
         (
-          subst (λ rows. Weighted (take (table.count - 0) c.loop-k.multipliers) rows) same
-              (subst (λ ms. Weighted ms (take table.count table.rows)) (sym slice)
+          subst (λ rows. Multiplied (take (table.count - 0) c.loop-k.multipliers) rows) same
+              (subst (λ ms. Multiplied ms (take table.count table.rows)) (sym slice)
               (weighted (length (held table)) _ (take table.count table.rows) (length-map (take table.count table.rows) row_of) c.requires.inside.1.1 line.1 c.requires.line.1.0)),
           c.requires.line.1.1,
         ),

@@ -3,7 +3,7 @@ use Rattle.dossier.specs.Lines.{sums}
 use Rattle.certificate.specs.Arrays.{rows_of, Within}
 use Rattle.certificate.proofs.line.column_sum.Given as goal
 
--- what is left makes up the sum, and each product adds at most 2^54
+-- what is left makes up the sum, and each product adds at most 2^55
 abbrev pub invariant-loop-k : goal.invariant-loop-k
 invariant-loop-k l =
     (l.sum +ℤ sums (drop l.k l.multipliers) (rows_of (drop l.k l.hypotheses)) l.column ≡ sums l.multipliers (rows_of l.hypotheses) l.column)

@@ -14,6 +14,6 @@ returns c =
     let zeros = each (c.args.count - 1) (λ _. zero_row) in
     let count : suc (c.args.count - 1) ≡ c.args.count = omega arith in
     c.push_zeros.ensures
-    ∙ ap (λ rows. rows ++ zeros) (c.push.ensures ∙ ap (λ r. base ++ r ∷ []) c.minus_one.ensures)
+    ∙ ap (λ rows. rows ++ zeros) (c.push.ensures ∙ ap (λ r. base ++ r ∷ []) c.minus_one.ensures.value)
     ∙ append_assoc base (minus_one ∷ []) zeros
     ∙ ap (λ n. base ++ impossible [] n) count

@@ -14,7 +14,7 @@ difference-requires g c =
     let cells = g.S.Source.cells c.args.source.now in
     let ranges = program_ranges cells (g.S.Source.formed c.args.source.now) in
     let at = c.proposition_at-at.ensures.0 ∙ ap (λ h. view.proposition_at h c.args.index) c.requires.0 in
-    let row = c.row_at.ensures ∙ ap (λ a. view.row_at cells (a + 2)) at in (
+    let row = c.row_at.ensures.value ∙ ap (λ a. view.row_at cells (a + 2)) at in (
       subst (RowWithin long) (sym c.zero_row.ensures) (zero_row_within 8589934592),
       subst (RowWithin long) (sym row) (row_more 32768 8589934592 _ (omega arith) (row_short cells _ (ranges.propositions c.args.index c.requires.1))),
     )
@@ -26,7 +26,7 @@ pub returns-else-number-eq1 : goal.returns-else-number-eq1
 returns-else-number-eq1 g c =
     let cells = g.S.Source.cells c.args.source.now in
     let at = c.proposition_at-at.ensures.0 ∙ ap (λ h. view.proposition_at h c.args.index) c.requires.0 in
-    let row = c.row_at.ensures ∙ ap (λ a. view.row_at cells (a + 2)) at in
+    let row = c.row_at.ensures.value ∙ ap (λ a. view.row_at cells (a + 2)) at in
     let type = c.number.ensures.0 ∙ ap (view.number cells) at in
     let other : view.is_place cells c.args.index ≡ false = ne_eqb _ 1 (λ e. c.if-number-eq1.false (type ∙ e)) in
     c.difference.ensures ∙ ap₂ (λ z r. less (difference z r) 1) c.zero_row.ensures row ∙ opposite (view.proposition_row cells c.args.index)

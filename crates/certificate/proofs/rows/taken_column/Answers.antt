@@ -1,8 +1,10 @@
-use Rattle.std.proofs.Common.{◌≡◌, suc, ◌+◌, ◌*◌, [], get_or, pos, ◌+ℤ◌, ◌*ℤ◌, ap, ◌∙◌, subst, add-one, arith, w64, SFits, rules}
+use Rattle.std.proofs.Common.{◌≡◌, suc, ◌+◌, ◌*◌, [], get_or, pos, negsuc, ◌+ℤ◌, ◌*ℤ◌, ◌≤ℤ◌, sym, ap, ◌∙◌, subst, add-one, arith, w64, SFits, rules}
 use Rattle.std.proofs.lemmas.Int.{to_z-of_z}
-use Rattle.dossier.specs.Rows.{sum_to, constant}
+use Rattle.dossier.specs.Rows.{sum_to, constant, taken}
 use Rattle.certificate.specs.Arrays.{row_of, Within}
 use Rattle.certificate.proofs.Bounds.{sum_within, within_more, fits_64}
+use Rattle.certificate.proofs.Narrower.{short_row}
+use Rattle.certificate.proofs.RowBounds.{taken_within}
 use Rattle.certificate.proofs.Sums.{sum_to_more}
 use Rattle.certificate.proofs.rows.taken_column.Goals as goal
 
@@ -15,7 +17,7 @@ product-term-requires c =
 bounded : (c : goal.After-product-term) → Within (32768 + (c.loop-v.v + 1) * 36028797018963968) (c.loop-v.sum +ℤ c.product-term.result)
 bounded c =
     subst (λ n. Within n (c.loop-v.sum +ℤ c.product-term.result)) (omega arith)
-    (sum_within (32768 + c.loop-v.v * 36028797018963968) 36028797018963968 c.loop-v.sum c.product-term.result (simp c.loop-v.sum-is at c.loop-v.invariant.1) c.product-term.ensures.1)
+    (sum_within (32768 + c.loop-v.v * 36028797018963968) 36028797018963968 c.loop-v.sum c.product-term.result (simp c.loop-v.sum-is at c.loop-v.invariant.1) c.product-term.ensures.bounded)
 
 fits : (c : goal.After-product-term) → SFits w64 (c.loop-v.sum +ℤ c.product-term.result)
 fits c = fits_64 _ (within_more _ _ _ (omega (arith, c.requires.0)) (bounded c))
@@ -31,11 +33,22 @@ loop-v-preserved c =
     let b : SFits w64 (get_or (get_or c.args.updates.now c.loop-v.v []) c.args.column (pos 0)) = search rules in
     let t : SFits w64 c.product-term.result = search rules in
     let s : SFits w64 (c.loop-v.sum +ℤ c.product-term.result) = fits c in
-    let term : c.product-term.result ≡ get_or c.args.row.now (suc c.loop-v.v) (pos 0) *ℤ get_or (get_or c.args.updates.now c.loop-v.v []) c.args.column (pos 0) = (simp to_z-of_z at c.product-term.ensures.0) ∙ ap (λ i. get_or c.args.row.now i (pos 0) *ℤ get_or (get_or c.args.updates.now c.loop-v.v []) c.args.column (pos 0)) (add-one c.loop-v.v) in
+    let term : c.product-term.result ≡ get_or c.args.row.now (suc c.loop-v.v) (pos 0) *ℤ get_or (get_or c.args.updates.now c.loop-v.v []) c.args.column (pos 0) = (simp to_z-of_z at c.product-term.ensures.value) ∙ ap (λ i. get_or c.args.row.now i (pos 0) *ℤ get_or (get_or c.args.updates.now c.loop-v.v []) c.args.column (pos 0)) (add-one c.loop-v.v) in
     let more = sum_to_more (constant (row_of c.args.row.now) c.args.column) c.loop-v.sum c.product-term.result c.loop-v.v (λ v. row_of c.args.row.now (suc v) *ℤ row_of (get_or c.args.updates.now v []) c.args.column) (simp c.loop-v.sum-is at c.loop-v.invariant.0) term in
     simp (c.loop-v.sum-is, to_z-of_z) (more, bounded c)
 
-pub returns : goal.returns
-returns c =
+-- the column as the definition has it
+made : (c : goal.After-loop-v) → c.loop-v.sum ≡ taken c.args.variables (row_of c.args.row.now) (λ v. row_of (get_or c.args.updates.now v [])) c.args.column
+made c =
     let all : c.loop-v.v ≡ c.args.variables = omega arith in
-    simp c.loop-v.sum-is (simp c.loop-v.sum-is at c.loop-v.invariant.0 ∙ ap (λ n. constant (row_of c.args.row.now) c.args.column +ℤ sum_to n (λ v. row_of c.args.row.now (suc v) *ℤ row_of (get_or c.args.updates.now v []) c.args.column)) all)
+    simp c.loop-v.sum-is at c.loop-v.invariant.0 ∙ ap (λ n. constant (row_of c.args.row.now) c.args.column +ℤ sum_to n (λ v. row_of c.args.row.now (suc v) *ℤ row_of (get_or c.args.updates.now v []) c.args.column)) all
+
+pub returns-clause-value : goal.returns-clause-value
+returns-clause-value c = simp c.loop-v.sum-is (made c)
+
+pub returns-clause-bounded : goal.returns-clause-bounded
+returns-clause-bounded c =
+    simp c.loop-v.sum-is λ s.
+    subst (λ z. (negsuc 34359738367 ≤ℤ z) × (z ≤ℤ pos 34359738368)) (sym (made c))
+    (within_more 8589934592 34359738368 _ (omega arith)
+    (taken_within c.args.variables (row_of c.args.row.now) (λ v. row_of (get_or c.args.updates.now v [])) c.requires.0 c.requires.1.1.0 (λ v l. short_row (get_or c.args.updates.now v []) (s v)) c.args.column))

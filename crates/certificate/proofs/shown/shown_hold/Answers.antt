@@ -76,7 +76,7 @@ returns-then-taken_column-lt0 g c =
     let rows = c.push_start_point.ensures ∙ ap (λ rows. rows ++ admission.start_conclusions cells) c.start_hypotheses.ensures in
     let inside : c.loop-row.row < length (admission.shown_rows cells) = omega (arith, ap length rows, held_length c.push_start_point.new.table) in
     let r = get_or (admission.shown_rows cells) c.loop-row.row zero_row in
-    let v = row_value cells c.shown_values-values.result c.args.head.now.variables _ r c.taken_column.result (ap (λ h. h.variables) c.requires) c.shown_values-values.ensures.0 (c.row.ensures ∙ ap (λ xs. get_or xs c.loop-row.row zero_row) rows) c.taken_column.ensures in
+    let v = row_value cells c.shown_values-values.result c.args.head.now.variables _ r c.taken_column.result (ap (λ h. h.variables) c.requires) c.shown_values-values.ensures.0 (c.row.ensures ∙ ap (λ xs. get_or xs c.loop-row.row zero_row) rows) c.taken_column.ensures.value in
     let fits : SFits w64 c.taken_column.result = search rules in
     sym (ap outcome (ap first_failure (rows_numbered cells 0 (admission.shown_rows cells)) ∙ fails (row_trial cells) zero_row (admission.shown_rows cells) c.loop-row.row inside (sign_no _ _ v c.if-taken_column-lt0.true fits) c.loop-row.invariant))
 
@@ -86,7 +86,7 @@ loop-row-preserved g c =
     let rows = c.push_start_point.ensures ∙ ap (λ rows. rows ++ admission.start_conclusions cells) c.start_hypotheses.ensures in
     let inside : c.loop-row.row < length (admission.shown_rows cells) = omega (arith, ap length rows, held_length c.push_start_point.new.table) in
     let r = get_or (admission.shown_rows cells) c.loop-row.row zero_row in
-    let v = row_value cells c.shown_values-values.result c.args.head.now.variables _ r c.taken_column.result (ap (λ h. h.variables) c.requires) c.shown_values-values.ensures.0 (c.row.ensures ∙ ap (λ xs. get_or xs c.loop-row.row zero_row) rows) c.taken_column.ensures in
+    let v = row_value cells c.shown_values-values.result c.args.head.now.variables _ r c.taken_column.result (ap (λ h. h.variables) c.requires) c.shown_values-values.ensures.0 (c.row.ensures ∙ ap (λ xs. get_or xs c.loop-row.row zero_row) rows) c.taken_column.ensures.value in
     let fits : SFits w64 c.taken_column.result = search rules in
     more (row_trial cells) zero_row (admission.shown_rows cells) c.loop-row.row inside (sign_yes _ _ v c.if-taken_column-lt0.false fits) c.loop-row.invariant
 

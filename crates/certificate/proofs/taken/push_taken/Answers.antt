@@ -26,7 +26,7 @@ taken-requires g c =
     let count = c.rows_of_point-i-end.ensures.0 ∙ ap point_rows c.requires.0 in
     let place = view.point_at (view.head cells) c.args.point in
     let inside : c.loop-i.i < point_rows (view.head cells) = omega (arith, count) in
-    let row = c.row_at-row.ensures ∙ ap₂ (λ a w. view.row_at cells (a + c.loop-i.i * w)) at width in
+    let row = c.row_at-row.ensures.value ∙ ap₂ (λ a w. view.row_at cells (a + c.loop-i.i * w)) at width in
     let variables : c.args.head.now.variables ≡ (view.head cells).variables = ap (λ h. h.variables) c.requires.0 in (
       c.args.head.now.program.0,
       (
@@ -48,8 +48,8 @@ loop-i-preserved g c =
     let width = c.row_width-width.ensures.0 ∙ ap view.row_width c.requires.0 in
     let at = c.point_at-at.ensures.0 ∙ ap (λ h. view.point_at h c.args.point) c.requires.0 in
     let place = view.point_at (view.head cells) c.args.point in
-    let row = c.row_at-row.ensures ∙ ap₂ (λ a w. view.row_at cells (a + c.loop-i.i * w)) at width in
+    let row = c.row_at-row.ensures.value ∙ ap₂ (λ a w. view.row_at cells (a + c.loop-i.i * w)) at width in
     let variables : c.args.head.now.variables ≡ (view.head cells).variables = ap (λ h. h.variables) c.requires.0 in
     pushed (held c.args.table.now) (held c.loop-i.table) c.loop-i.i (λ i. at_step cells c.args.step (stored_row cells place i)) c.loop-i.invariant
     _ _ c.push.ensures
-    (taken_is cells ranges c.args.step c.requires.1.0 (stored_row cells place c.loop-i.i) c.row_at-row.result c.taken.result c.update_rows-updates.result c.args.head.now.variables row variables c.update_rows-updates.ensures c.taken.ensures)
+    (taken_is cells ranges c.args.step c.requires.1.0 (stored_row cells place c.loop-i.i) c.row_at-row.result c.taken.result c.update_rows-updates.result c.args.head.now.variables row variables c.update_rows-updates.ensures c.taken.ensures.value)

@@ -10,7 +10,7 @@ loop-v-preserved g c =
     let at = c.step_at-at.ensures.0 ∙ ap (λ h. view.step_at h c.args.step) c.requires.0 in
     let inside : c.loop-v.v < length c.loop-v.rows = omega arith in (
       length-set _ _ _ ∙ c.loop-v.invariant.0,
-      set_more c.loop-v.rows c.loop-v.v c.row_at.result (view.update cells c.args.step) inside (c.row_at.ensures ∙ ap₂ (λ a w. view.row_at cells (a + 2 + c.loop-v.v * w)) at width) c.loop-v.invariant.1,
+      set_more c.loop-v.rows c.loop-v.v c.row_at.result (view.update cells c.args.step) inside (c.row_at.ensures.value ∙ ap₂ (λ a w. view.row_at cells (a + 2 + c.loop-v.v * w)) at width) c.loop-v.invariant.1,
     )
 
 pub returns : goal.returns
