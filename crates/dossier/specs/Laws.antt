@@ -23,6 +23,7 @@ LineLaw = (n : ℕ) (d : ℤ) (ms : List ℤ) (hs : List Row) (c : Row) → T (l
 abbrev pub KindsLaw : Type 0
 KindsLaw = (n : ℕ) → Lawful (by_first_difference n)
 
+-- outside their modes, and beyond their numbers, their fall rows are zero
 abbrev pub OutsideLaw : Type 0
 OutsideLaw = (n : ℕ) → ZeroOutside (by_first_difference n)
 
@@ -96,6 +97,7 @@ pub record AdmittedByTests (kind : Kind) (cells : List ℤ) : Type 0 where
   pub some_run_first : (f : AdmitFault) → (admit_some_run kind cells ≡ Err f) ↔ FirstFailing (some_run_trials cells kind) f
   pub some_run_counted : some_run_lines cells ≡ lines_in (some_run_trials cells kind)
 
+-- so it is at every kind and every list
 abbrev pub ByTestsLaw : Type 1
 ByTestsLaw = (kind : Kind) (cells : List ℤ) → AdmittedByTests kind cells
 
@@ -106,6 +108,7 @@ EveryRunTheorem = (kind : Kind) → Lawful kind → (cells : List ℤ) → well_
 abbrev pub SomeRunTheorem : Type 1
 SomeRunTheorem = (kind : Kind) → Lawful kind → (cells : List ℤ) → well_formed cells ≡ true → (n : ℕ) → admit_some_run kind cells ≡ Ok n → SomeRunLaw cells
 
+-- the watch follows every open step of the program
 abbrev pub FollowsTheorem : Type 1
 FollowsTheorem = (kind : Kind) → Lawful kind → (cells : List ℤ) → well_formed cells ≡ true → (n : ℕ) → admit_every_run kind cells ≡ Ok n → WatchFollows cells
 
