@@ -1,6 +1,6 @@
 // Why a dossier is not admitted.
 
-#[derive(Clone, Copy)]
+#[derive(Clone, Copy, Debug, PartialEq, Eq)]
 pub enum AdmitFault {
     // another form or count of rank numbers than called for: those of the dossier
     Other { form: usize, numbers: usize },

@@ -5,11 +5,11 @@ ghost use Rattle.dossier.specs.Refusals.{admit_refusal};
 use crate::fault::AdmitFault;
 use layout::fault::Refusal;
 
-impl AdmitFault {
-    pub fn refusal(self) -> Refusal
-        ensures { result ≡ admit_refusal self }
-    {
-        let (number, first, second) = match self {
+impl From<AdmitFault> for Refusal {
+    ghost from_gives = { λ fault refusal. refusal ≡ admit_refusal fault };
+
+    fn from(fault: AdmitFault) -> Refusal {
+        let (number, first, second) = match fault {
             AdmitFault::Other { form, numbers } => (0x20, form, numbers),
             AdmitFault::NoEdge { state, letter } => (0x21, state, letter),
             AdmitFault::StartLine { line } => (0x22, 0, line),

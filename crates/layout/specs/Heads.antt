@@ -1,5 +1,6 @@
 -- The counts that a head holds.
 use Rattle.layout.specs.declared.head.Head.{Head}
+use Rattle.layout.specs.Forms.{form_number}
 use Rattle.layout.specs.Layout.{Counts}
 
 abbrev pub counts_of : Head → Counts
@@ -15,6 +16,6 @@ counts_of h = record {
   region_rows = h.region_rows;
   start_place = h.start_place;
   start_state = h.start_state;
-  form = h.form;
+  form = form_number h.form;
   rank_numbers = h.rank_numbers;
 }

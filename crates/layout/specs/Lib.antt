@@ -7,4 +7,5 @@ pub mod Refusals
 pub mod Cases
 pub mod Checking
 pub mod Laws
+pub mod Forms
 pub mod Heads

@@ -4,13 +4,13 @@ ghost use Rattle.layout.specs.declared.fault.LineFault.TheVariants.{Field as InF
 ghost use Rattle.layout.specs.declared.fault.ReadFault.TheVariants.{Line as InLine};
 
 // A place in a text: the line, from 1, and the byte, from 0, counted through the whole text.
-#[derive(Clone, Copy)]
+#[derive(Clone, Copy, Debug, PartialEq, Eq)]
 pub struct Place {
     pub line: usize,
     pub byte: usize,
 }
 
-#[derive(Clone, Copy)]
+#[derive(Clone, Copy, Debug, PartialEq, Eq)]
 pub enum FieldFault {
     // a byte that is no digit, where a digit is due
     NoDigit(Place),
@@ -22,7 +22,7 @@ pub enum FieldFault {
     OutOfRange(Place),
 }
 
-#[derive(Clone, Copy)]
+#[derive(Clone, Copy, Debug, PartialEq, Eq)]
 pub enum LineFault {
     Field(FieldFault),
     // another kind than the one due, at its first digit
@@ -33,7 +33,7 @@ pub enum LineFault {
     Unended(Place),
 }
 
-#[derive(Clone, Copy)]
+#[derive(Clone, Copy, Debug, PartialEq, Eq)]
 pub enum ReadFault {
     TooFewCells { needed: usize, given: usize },
     Line(LineFault),
@@ -41,13 +41,13 @@ pub enum ReadFault {
     Extra(Place),
 }
 
-#[derive(Clone, Copy)]
+#[derive(Clone, Copy, Debug, PartialEq, Eq)]
 pub enum OpenFault {
     NotWellFormed,
 }
 
 // What every refusal tells: its number and two places.
-#[derive(Clone, Copy)]
+#[derive(Clone, Copy, Debug, PartialEq, Eq)]
 pub struct Refusal {
     pub number: u8,
     pub first: usize,

@@ -3,6 +3,8 @@
 
 pub mod fault;
 pub mod field;
+pub mod form;
 pub mod frame;
 pub mod head;
+pub mod head_cells;
 pub mod refusal;

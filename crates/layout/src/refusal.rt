@@ -14,11 +14,11 @@ fn at(number: u8, place: Place) -> Refusal
     }
 }
 
-impl FieldFault {
-    pub fn refusal(self) -> Refusal
-        ensures { result ≡ field_refusal self }
-    {
-        match self {
+impl From<FieldFault> for Refusal {
+    ghost from_gives = { λ fault refusal. refusal ≡ field_refusal fault };
+
+    fn from(fault: FieldFault) -> Refusal {
+        match fault {
             FieldFault::NoDigit(place) => at(0x11, place),
             FieldFault::LineFeed(place) => at(0x12, place),
             FieldFault::Over(place) => at(0x14, place),
@@ -27,12 +27,12 @@ impl FieldFault {
     }
 }
 
-impl LineFault {
-    pub fn refusal(self) -> Refusal
-        ensures { result ≡ line_refusal self }
-    {
-        match self {
-            LineFault::Field(fault) => fault.refusal(),
+impl From<LineFault> for Refusal {
+    ghost from_gives = { λ fault refusal. refusal ≡ line_refusal fault };
+
+    fn from(fault: LineFault) -> Refusal {
+        match fault {
+            LineFault::Field(fault) => Refusal::from(fault),
             LineFault::WrongKind(place) => at(0x15, place),
             LineFault::NoLineFeed(place) => at(0x13, place),
             LineFault::Unended(place) => at(0x14, place),
@@ -40,26 +40,26 @@ impl LineFault {
     }
 }
 
-impl ReadFault {
-    pub fn refusal(self) -> Refusal
-        ensures { result ≡ read_refusal self }
-    {
-        match self {
+impl From<ReadFault> for Refusal {
+    ghost from_gives = { λ fault refusal. refusal ≡ read_refusal fault };
+
+    fn from(fault: ReadFault) -> Refusal {
+        match fault {
             ReadFault::TooFewCells { needed, given } => Refusal {
                 number: 0x10,
                 first: needed,
                 second: given,
             },
-            ReadFault::Line(fault) => fault.refusal(),
+            ReadFault::Line(fault) => Refusal::from(fault),
             ReadFault::Extra(place) => at(0x17, place),
         }
     }
 }
 
-impl OpenFault {
-    pub fn refusal(self) -> Refusal
-        ensures { result ≡ open_refusal self }
-    {
+impl From<OpenFault> for Refusal {
+    ghost from_gives = { λ fault refusal. refusal ≡ open_refusal fault };
+
+    fn from(_fault: OpenFault) -> Refusal {
         Refusal {
             number: 0x39,
             first: 0,
