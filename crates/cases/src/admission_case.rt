@@ -35,7 +35,7 @@ struct Call<'a> {
 fn refused<S: Source + Drop, K: Drop>(refused: Refused<S, K>, count: usize, last: i32) -> Verdict {
     let back = refused.source.count();
     if back == count && refused.source.cell(back.wrapping_sub(1)) == last {
-        Verdict::Refused(refused.fault.refusal())
+        Verdict::Refused(Refusal::from(refused.fault))
     } else {
         Verdict::Altered
     }

@@ -38,7 +38,7 @@ fn is_refused(cells: &[i32]) -> bool {
     match opening::open(cells, &mut sheet) {
         Ok(()) => false,
         Err(fault) => {
-            let refusal = fault.refusal();
+            let refusal = Refusal::from(fault);
             refusal.number == 0x39 && refusal.first == 0 && refusal.second == 0
         }
     }
@@ -70,7 +70,7 @@ impl Outcome {
         Ok(match answer {
             Ok(count) => after_reading(&cells, count),
             Err(_) if !untouched(&cells) => Outcome::Altered,
-            Err(fault) => Outcome::Refused(fault.refusal()),
+            Err(fault) => Outcome::Refused(Refusal::from(fault)),
         })
     }
 }

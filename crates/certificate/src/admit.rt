@@ -1,5 +1,6 @@
 // Admission: a dossier passes every test of its form, or the first that fails is named.
 ghost use Rattle.std.specs.Prelude.{◌≡◌, true, [], ◌∷◌, is_ok};
+ghost use Rattle.layout.specs.Forms.{form_number};
 ghost use Rattle.layout.specs.Heads.{counts_of};
 ghost use Rattle.dossier.specs.Admission.{called_by, admit_every_run, admit_some_run};
 ghost use Rattle.dossier.specs.CaseTable.{WorkedTable};
@@ -10,7 +11,6 @@ ghost use Rattle.certificate.specs.Admits.{answered, refusal_of, refusal_due};
 ghost use Rattle.certificate.specs.Outcomes.{passed};
 
 use crate::admitted::{Admitted, EveryRun, Refused, SomeRun};
-use crate::cells::head;
 use crate::every_run::{failing_line, start_lines};
 use crate::kind::RankKind;
 use crate::offset::{conclusions_of, point_conclusions, points, rows_of_point};
@@ -19,20 +19,20 @@ use crate::some_run::failing_choice;
 use crate::table::Table;
 use crate::watch::watch_complete;
 use dossier::fault::AdmitFault;
+use layout::form::Form;
 use layout::head::Head;
 use sources::source::Source;
 
 // Whether form and count of rank numbers are those called for.
-fn called_for(head: &Head, form: usize, numbers: usize) -> Result<(), AdmitFault>
-    ensures { result ≡ passed (called_by (counts_of head.now) form numbers ∷ []) }
+fn called_for(head: &Head, form: Form, numbers: usize) -> Result<(), AdmitFault>
+    ensures { result ≡ passed (called_by (counts_of head.now) (form_number form) numbers ∷ []) }
 {
-    let found = head.form as usize;
     let ranks = head.rank_numbers as usize;
-    if found == form && ranks == numbers {
+    if head.form == form && ranks == numbers {
         Ok(())
     } else {
         Err(AdmitFault::Other {
-            form: found,
+            form: u16::from(head.form) as usize,
             numbers: ranks,
         })
     }
@@ -42,8 +42,8 @@ fn called_for(head: &Head, form: usize, numbers: usize) -> Result<(), AdmitFault
 fn judge_every_run<S: Source, K: RankKind>(source: &S, kind: &K) -> Result<usize, AdmitFault>
     ensures { result ≡ admit_every_run K.RankKind.kind (S.Source.cells source.now) }
 {
-    let head = head(source);
-    called_for(&head, 1, kind.numbers())?;
+    let head = source.head();
+    called_for(&head, Form::EveryRun, kind.numbers())?;
     watch_complete(source, &head)?;
     let mut hypotheses = Table::new();
     let mut conclusions = Table::new();
@@ -60,8 +60,8 @@ fn judge_every_run<S: Source, K: RankKind>(source: &S, kind: &K) -> Result<usize
 fn judge_some_run<S: Source, K: RankKind>(source: &S, kind: &K) -> Result<usize, AdmitFault>
     ensures { result ≡ admit_some_run K.RankKind.kind (S.Source.cells source.now) }
 {
-    let head = head(source);
-    called_for(&head, 2, kind.numbers())?;
+    let head = source.head();
+    called_for(&head, Form::SomeRun, kind.numbers())?;
     let mut hypotheses = Table::new();
     let mut conclusions = Table::new();
     shown_hold(source, &head, &mut hypotheses)?;

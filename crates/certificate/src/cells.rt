@@ -17,41 +17,6 @@ pub(crate) fn number<S: Source>(source: &S, index: usize) -> usize
     if cell < 0 { 0 } else { cell as usize }
 }
 
-fn count<S: Source>(source: &S, index: usize) -> u16
-    requires { count_of (slice_index_or (S.Source.cells source.now) index (pos 0)) ≤ 255 }
-    ensures { result ≡ count_of (slice_index_or (S.Source.cells source.now) index (pos 0)) }
-{
-    number(source, index) as u16
-}
-
-fn head_in<S: Source>(source: &S) -> Head
-    requires { InRanges (view.head (S.Source.cells source.now)) }
-    ensures { counts_of result ≡ view.head (S.Source.cells source.now) }
-{
-    Head {
-        variables: count(source, 0),
-        places: count(source, 1),
-        steps: count(source, 2),
-        propositions: count(source, 3),
-        states: count(source, 4),
-        edges: count(source, 5),
-        start_rows: count(source, 6),
-        guards: count(source, 7),
-        region_rows: count(source, 8),
-        start_place: count(source, 9),
-        start_state: count(source, 10),
-        form: count(source, 11),
-        rank_numbers: count(source, 12),
-    }
-}
-
-// The head's numbers.
-pub(crate) fn head<S: Source>(source: &S) -> Head
-    ensures { counts_of result ≡ view.head (S.Source.cells source.now) }
-{
-    head_in(source)
-}
-
 // The row whose constant stands at an index.
 pub(crate) fn row_at<S: Source>(source: &S, head: &Head, at: usize) -> [i64; 7]
     requires { (counts_of head.now ≡ view.head (S.Source.cells source.now)) × (at < 2 ^ 32) }

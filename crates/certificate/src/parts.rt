@@ -4,9 +4,10 @@ ghost use Rattle.layout.specs.Heads.{counts_of};
 ghost use Rattle.dossier.specs.Dossier as view;
 ghost use Rattle.certificate.specs.Parts.{written, move_written, choice_written};
 
-use crate::cells::{head, number};
+use crate::cells::number;
 use crate::offset::{choice_at, edge_at, move_at, points, step_at};
 use crate::written::Move;
+use layout::form::Form;
 use layout::head::Head;
 use sources::source::Source;
 
@@ -32,9 +33,12 @@ fn joined<S: Source>(source: &S, head: &Head, mode: usize, step: usize, edge: us
 pub fn move_of<S: Source>(source: &S, index: usize) -> Option<Move>
     ensures { result ≡ move_written (S.Source.cells source.now) index }
 {
-    let head = head(source);
+    let head = source.head();
+    let Form::EveryRun = head.form else {
+        return None;
+    };
     let edges = head.edges as usize;
-    if head.form != 1 || index >= head.steps as usize * edges {
+    if index >= head.steps as usize * edges {
         return None;
     }
     let mode = number(source, move_at(&head, index));
@@ -45,8 +49,11 @@ pub fn move_of<S: Source>(source: &S, index: usize) -> Option<Move>
 pub fn choice_of<S: Source>(source: &S, point: usize) -> Option<Move>
     ensures { result ≡ choice_written (S.Source.cells source.now) point }
 {
-    let head = head(source);
-    if head.form != 2 || point >= points(&head) {
+    let head = source.head();
+    let Form::SomeRun = head.form else {
+        return None;
+    };
+    if point >= points(&head) {
         return None;
     }
     let at = choice_at(&head, point);

@@ -5,6 +5,7 @@ ghost use Rattle.layout.specs.Layout as due;
 ghost use Rattle.layout.specs.Heads.{counts_of};
 
 use layout::field::{Digits, Field, Range, Test};
+use layout::form::Form;
 use layout::frame::{Frame, Group};
 use layout::head::Head;
 
@@ -272,7 +273,7 @@ fn choices(head: &Head) -> Group
 fn start(head: &Head) -> Group
     ensures { result ≡ due.start_group (counts_of head.now) }
 {
-    if head.form == 1 {
+    if head.form == Form::EveryRun {
         repeated(
             head.region_rows + head.rank_numbers,
             line(0x70, head.start_rows),
@@ -287,7 +288,7 @@ fn start(head: &Head) -> Group
 pub(crate) fn groups(head: &Head) -> [Group; 8]
     ensures { result ≡ due.groups (counts_of head.now) }
 {
-    let proofs = if head.form == 1 {
+    let proofs = if head.form == Form::EveryRun {
         moves(head)
     } else {
         choices(head)

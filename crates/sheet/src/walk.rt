@@ -9,11 +9,11 @@ ghost use Rattle.layout.specs.declared.fault.Place;
 ghost use Rattle.sheet.specs.Store.{put, Found, Valued, Stored, Led, Headed};
 
 use crate::due::groups;
-use crate::tests_of::{count_of, range_of};
+use crate::tests_of::range_of;
 use layout::field::{Digits, Field, Range, Test};
 use layout::frame::{Frame, Group};
 use layout::head::Head;
-use sources::cells::value_at;
+use layout::head_cells::HeadCells;
 
 pub(crate) trait Fields {
     type Fault;
@@ -204,35 +204,6 @@ pub(crate) fn body<V: Fields>(
     Ok(next)
 }
 
-// The count that stands at an index of a head's values.
-fn count_at(values: &[i32], index: usize) -> u16
-    requires { count_of (slice_index_or values.now index (pos 0)) ≤ 255 }
-    ensures { result ≡ count_of (slice_index_or values.now index (pos 0)) }
-{
-    count_of(value_at(values, index) as i64) as u16
-}
-
-fn head_of(values: &[i32]) -> Head
-    requires { InRanges (counts values.now) }
-    ensures { counts_of result ≡ counts values.now }
-{
-    Head {
-        variables: count_at(values, 0),
-        places: count_at(values, 1),
-        steps: count_at(values, 2),
-        propositions: count_at(values, 3),
-        states: count_at(values, 4),
-        edges: count_at(values, 5),
-        start_rows: count_at(values, 6),
-        guards: count_at(values, 7),
-        region_rows: count_at(values, 8),
-        start_place: count_at(values, 9),
-        start_state: count_at(values, 10),
-        form: count_at(values, 11),
-        rank_numbers: count_at(values, 12),
-    }
-}
-
 // The fields of the head line: nine counts, start place and start state, form, count of rank numbers.
 const HEAD_FIELDS: [Field; 13] = [
     Field {
@@ -334,5 +305,5 @@ pub(crate) fn head<V: Fields>(fields: &mut V, cells: &mut [i32]) -> Result<(Head
         cells,
         0,
     )?;
-    Ok((head_of(&values), next))
+    Ok((Head::from(HeadCells { cells: values }), next))
 }

@@ -16,9 +16,9 @@ pub enum Refused {
 impl Refused {
     fn refusal(&self) -> Refusal {
         match self {
-            Refused::Reading { fault, .. } => fault.refusal(),
-            Refused::Opening(fault) => fault.refusal(),
-            Refused::Admission { fault, .. } => fault.refusal(),
+            Refused::Reading { fault, .. } => Refusal::from(*fault),
+            Refused::Opening(fault) => Refusal::from(*fault),
+            Refused::Admission { fault, .. } => Refusal::from(*fault),
         }
     }
 }

@@ -6,16 +6,16 @@ use Rattle.layout.proofs.Lawful.{line_lawful}
 use Rattle.sheet.specs.Store.{put}
 use Rattle.sheet.proofs.walk.head.Goals as goal
 
-pub head_of-requires : goal.head_of-requires
-head_of-requires g c =
+pub invariant_of-from : goal.invariant_of-from
+invariant_of-from g c =
     let told = c.in_ok-next.ensures in
     let s = c.args.fields.now in
-    subst InRanges (counts_take c.line.new.values) (head_ranges (take 13 c.line.new.values) (line_lawful (g.V.Fields.supply s) put (g.V.Fields.lawful s) head_kind head_fields unused 0 (0, c.args.cells.now) (g.V.Fields.place s) told.walked))
+    record { in_ranges = subst InRanges (counts_take c.line.new.values) (head_ranges (take 13 c.line.new.values) (line_lawful (g.V.Fields.supply s) put (g.V.Fields.lawful s) head_kind head_fields unused 0 (0, c.args.cells.now) (g.V.Fields.place s) told.walked)) }
 
 pub returns : goal.returns
 returns g c =
     let told = c.in_ok-next.ensures in
     record {
       same = told.same;
-      walked = (take 13 c.line.new.values, told.walked, c.head_of.ensures ∙ sym (counts_take c.line.new.values));
+      walked = (take 13 c.line.new.values, told.walked, c.from.ensures ∙ sym (counts_take c.line.new.values));
     }
