@@ -1,7 +1,7 @@
 -- Groups of proof lines: the start lines, the lines of a move, the lines of a point. What the judgement of a line asks for.
-use Rattle.std.proofs.Common.{◌≡◌, ℕ, ◌+◌, ◌<◌, ◌≤◌, true, List, length, get_or, ℤ, sym, ap, ◌∙◌, subst, ap₂, arith}
+use Rattle.std.proofs.Common.{◌≡◌, ℕ, ◌+◌, ◌<◌, ◌≤◌, true, List, [], length, get_or, ℤ, sym, ap, ◌∙◌, subst, ap₂, arith}
 use lib.Arith.{digits_lt}
-use Rattle.std.proofs.lemmas.List.{length-append}
+use Rattle.std.proofs.lemmas.List.{length-append, length-map, get_or-map}
 use Rattle.layout.specs.Cells.{well_formed}
 use Rattle.layout.specs.Layout.{point_rows, conclusions}
 use Rattle.dossier.specs.Admission
@@ -12,11 +12,9 @@ use Rattle.dossier.specs.Rows.{Row, zero_row}
 use Rattle.dossier.proofs.CellRanges.{program_ranges, every_run_ranges, some_run_ranges}
 use Rattle.dossier.proofs.Tests.{length_start, length_move_claims, length_point_claims}
 use Rattle.dossier.proofs.Trials.{length_each}
-use Rattle.certificate.specs.Arrays.{row_of, held, RowWithin, RowsWithin, wide}
-use Rattle.certificate.specs.declared.table.Table.{Table}
+use Rattle.certificate.specs.Arrays.{row_of, rows_of, RowWithin, RowsWithin, wide}
 use Rattle.certificate.proofs.HypothesisRows.{length_point, length_guards, length_edge_rows}
 use Rattle.certificate.proofs.Places.{step_below, edge_below}
-use Rattle.certificate.proofs.Tables.{held_length}
 use Rattle.certificate.proofs.WideRows.{start_wide, point_wide, hypotheses_wide, claims_wide, choice_claims_wide}
 
 -- n hypotheses and some conclusions, line k at its place
@@ -28,27 +26,27 @@ pub record Group (cells : List ℤ) (at : ℕ → ℕ) (n : ℕ) (hs cs : List R
   pub shown : RowsWithin wide cs
 
 -- what the judgement of line k asks for, and what it tells
-pub record Judgement (cells : List ℤ) (at : ℕ → ℕ) (n : ℕ) (hs cs : List Row) (H : Table) (k place : ℕ) (row : List ℤ) : Type 0 where
+pub record Judgement (cells : List ℤ) (at : ℕ → ℕ) (n : ℕ) (hs cs : List Row) (H : List (List ℤ)) (k place : ℕ) (row : List ℤ) : Type 0 where
   pub inside : k < length cs
-  pub few : length (held H) ≤ 18
-  pub line : Line cells place (length (held H))
-  pub assumed : RowsWithin wide (held H)
+  pub few : length H ≤ 18
+  pub line : Line cells place (length H)
+  pub assumed : RowsWithin wide (rows_of H)
   pub shown : RowWithin wide (row_of row)
-  pub judged : Admission.line_at cells place (length (held H)) (held H) (row_of row) ≡ Admission.line_at cells (at k) n hs (get_or cs k zero_row)
+  pub judged : Admission.line_at cells place (length H) (rows_of H) (row_of row) ≡ Admission.line_at cells (at k) n hs (get_or cs k zero_row)
 
-pub judgement : {cells : List ℤ} {at : ℕ → ℕ} {n : ℕ} {hs cs : List Row} → Group cells at n hs cs → (H C : Table) → held H ≡ hs → held C ≡ cs
-    → (k : ℕ) → k < C.count → {place : ℕ} → place ≡ at k → {row : List ℤ} → row_of row ≡ get_or (held C) k zero_row → Judgement cells at n hs cs H k place row
+pub judgement : {cells : List ℤ} {at : ℕ → ℕ} {n : ℕ} {hs cs : List Row} → Group cells at n hs cs → (H C : List (List ℤ)) → rows_of H ≡ hs → rows_of C ≡ cs
+    → (k : ℕ) → k < length C → {place : ℕ} → place ≡ at k → {row : List ℤ} → row ≡ get_or C k [] → Judgement cells at n hs cs H k place row
 judgement {cells} {at} {n} {hs} {cs} group H C assumes shows k below {place} is {row} chosen =
-    let within : k < length cs = omega (arith, held_length C, ap length shows) in
-    let count : length (held H) ≡ n = ap length assumes ∙ group.counted in
-    let same : row_of row ≡ get_or cs k zero_row = chosen ∙ ap (λ xs. get_or xs k zero_row) shows in
+    let within : k < length cs = omega (arith, length-map C row_of, ap length shows) in
+    let count : length H ≡ n = sym (length-map H row_of) ∙ ap length assumes ∙ group.counted in
+    let same : row_of row ≡ get_or cs k zero_row = ap row_of chosen ∙ sym (get_or-map row_of C k [] zero_row below) ∙ ap (λ xs. get_or xs k zero_row) shows in
     record {
       inside = within;
       few = omega (arith, group.few);
       line = subst (λ m. Line cells place m) (sym count) (subst (λ a. Line cells a n) (sym is) (group.lines k within));
       assumed = subst (RowsWithin wide) (sym assumes) group.assumed;
       shown = subst (RowWithin wide) (sym same) (group.shown k within);
-      judged = ap₂ (λ a m. Admission.line_at cells a m (held H) (row_of row)) is count ∙ ap₂ (Admission.line_at cells (at k) n) assumes same;
+      judged = ap₂ (λ a m. Admission.line_at cells a m (rows_of H) (row_of row)) is count ∙ ap₂ (Admission.line_at cells (at k) n) assumes same;
     }
 
 -- the three sorts of groups

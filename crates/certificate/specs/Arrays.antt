@@ -1,7 +1,7 @@
 -- Rows as the code holds them: seven numbers, a constant and up to six coefficients.
-use Rattle.std.specs.Prelude.{◌≡◌, ℕ, zero, suc, ◌<◌, ◌≤◌, cond, List, [], map, length, take, ℤ, pos, negsuc, neg_ℤ, ◌≤ℤ◌, nat_lt, slice_index_or}
+use Rattle.std.specs.Prelude.{◌≡◌, ℕ, zero, suc, ◌<◌, ◌≤◌, cond, List, [], map, length, ℤ, pos, negsuc, neg_ℤ, ◌≤ℤ◌, nat_lt, slice_index_or}
 use Rattle.dossier.specs.Rows.{Row, zero_row}
-use Rattle.certificate.specs.declared.table.Table.{Table}
+use Rattle.arrayvec.specs.ArrayVec.{ArrayVec}
 
 abbrev pub row_of : List ℤ → Row
 row_of numbers j = slice_index_or numbers j (pos 0)
@@ -19,8 +19,8 @@ constant_row z zero = z
 constant_row z (suc j) = pos 0
 
 -- the rows that a table holds
-abbrev pub held : Table → List Row
-held table = rows_of (take table.count table.rows)
+abbrev pub held : ArrayVec (List ℤ) → List Row
+held table = rows_of table.items
 
 -- bounds of numbers -------------------------------------------------------------------------------
 

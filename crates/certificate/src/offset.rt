@@ -1,136 +1,159 @@
 // Where the parts of a dossier begin in its cells.
 ghost use Rattle.std.specs.Prelude.{◌≡◌, ◌+◌, ◌*◌, ◌<◌, ◌≤◌};
-ghost use Rattle.layout.specs.Heads.{counts_of};
 ghost use Rattle.layout.specs.Layout.{point_rows, conclusions};
-ghost use Rattle.dossier.specs.Dossier as view;
+ghost use Rattle.dossier.specs.Dossier as parts;
 
-use layout::head::Head;
+use crate::view::View;
+use sources::source::Source;
 
-pub(crate) fn row_width(head: &Head) -> usize
-    ensures { (result ≡ view.row_width (counts_of head.now)) × (result ≤ 7) }
-{
-    head.variables as usize + 1
-}
+impl<'a, S: Source> View<'a, S> {
+    pub(crate) fn row_width(&self) -> usize
+        ensures value { result ≡ parts.row_width (parts.head (S.cells self.now.source.now)) }
+        ensures bounded { result ≤ 7 }
+    {
+        self.head.variables as usize + 1
+    }
 
-pub(crate) fn rows_of_point(head: &Head) -> usize
-    ensures { (result ≡ point_rows (counts_of head.now)) × (result ≤ 6) }
-{
-    head.region_rows as usize + head.rank_numbers as usize
-}
+    pub(crate) fn rows_of_point(&self) -> usize
+        ensures value { result ≡ point_rows (parts.head (S.cells self.now.source.now)) }
+        ensures bounded { result ≤ 6 }
+    {
+        self.head.region_rows as usize + self.head.rank_numbers as usize
+    }
 
-pub(crate) fn start_row_at(head: &Head, i: usize) -> usize
-    requires { i ≤ 4 }
-    ensures { (result ≡ view.start_row_at (counts_of head.now) i) × (result ≤ 41) }
-{
-    13 + i * row_width(head)
-}
+    pub(crate) fn start_row_at(&self, i: usize) -> usize
+        requires { i ≤ 4 }
+        ensures value { result ≡ parts.start_row_at (parts.head (S.cells self.now.source.now)) i }
+        ensures bounded { result ≤ 41 }
+    {
+        13 + i * self.row_width()
+    }
 
-fn step_width(head: &Head) -> usize
-    ensures { (result ≡ view.step_width (counts_of head.now)) × (result ≤ 72) }
-{
-    let width = row_width(head);
-    2 + head.variables as usize * width + head.guards as usize * width
-}
+    fn step_width(&self) -> usize
+        ensures value { result ≡ parts.step_width (parts.head (S.cells self.now.source.now)) }
+        ensures bounded { result ≤ 72 }
+    {
+        let width = self.row_width();
+        2 + self.head.variables as usize * width + self.head.guards as usize * width
+    }
 
-pub(crate) fn step_at(head: &Head, t: usize) -> usize
-    requires { t ≤ 16 }
-    ensures { (result ≡ view.step_at (counts_of head.now) t) × (result ≤ 1193) }
-{
-    start_row_at(head, head.start_rows as usize) + t * step_width(head)
-}
+    pub(crate) fn step_at(&self, t: usize) -> usize
+        requires { t ≤ 16 }
+        ensures value { result ≡ parts.step_at (parts.head (S.cells self.now.source.now)) t }
+        ensures bounded { result ≤ 1193 }
+    {
+        self.start_row_at(self.head.start_rows as usize) + t * self.step_width()
+    }
 
-pub(crate) fn proposition_at(head: &Head, i: usize) -> usize
-    requires { i ≤ 8 }
-    ensures { (result ≡ view.proposition_at (counts_of head.now) i) × (result ≤ 1265) }
-{
-    step_at(head, head.steps as usize) + i * (2 + row_width(head))
-}
+    pub(crate) fn proposition_at(&self, i: usize) -> usize
+        requires { i ≤ 8 }
+        ensures value { result ≡ parts.proposition_at (parts.head (S.cells self.now.source.now)) i }
+        ensures bounded { result ≤ 1265 }
+    {
+        self.step_at(self.head.steps as usize) + i * (2 + self.row_width())
+    }
 
-pub(crate) fn state_at(head: &Head, q: usize) -> usize
-    requires { q ≤ 4 }
-    ensures { (result ≡ view.state_at (counts_of head.now) q) × (result ≤ 1269) }
-{
-    proposition_at(head, head.propositions as usize) + q
-}
+    pub(crate) fn state_at(&self, q: usize) -> usize
+        requires { q ≤ 4 }
+        ensures value { result ≡ parts.state_at (parts.head (S.cells self.now.source.now)) q }
+        ensures bounded { result ≤ 1269 }
+    {
+        self.proposition_at(self.head.propositions as usize) + q
+    }
 
-pub(crate) fn edge_at(head: &Head, e: usize) -> usize
-    requires { e ≤ 12 }
-    ensures { (result ≡ view.edge_at (counts_of head.now) e) × (result ≤ 1317) }
-{
-    state_at(head, head.states as usize) + e * 4
-}
+    pub(crate) fn edge_at(&self, e: usize) -> usize
+        requires { e ≤ 12 }
+        ensures value { result ≡ parts.edge_at (parts.head (S.cells self.now.source.now)) e }
+        ensures bounded { result ≤ 1317 }
+    {
+        self.state_at(self.head.states as usize) + e * 4
+    }
 
-pub(crate) fn points(head: &Head) -> usize
-    ensures { (result ≡ view.points (counts_of head.now)) × (result ≤ 32) }
-{
-    head.places as usize * head.states as usize
-}
+    pub(crate) fn points(&self) -> usize
+        ensures value { result ≡ parts.points (parts.head (S.cells self.now.source.now)) }
+        ensures bounded { result ≤ 32 }
+    {
+        self.head.places as usize * self.head.states as usize
+    }
 
-pub(crate) fn point_at(head: &Head, p: usize) -> usize
-    requires { p ≤ 32 }
-    ensures { (result ≡ view.point_at (counts_of head.now) p) × (result ≤ 2661) }
-{
-    edge_at(head, head.edges as usize) + p * (rows_of_point(head) * row_width(head))
-}
+    pub(crate) fn point_at(&self, p: usize) -> usize
+        requires { p ≤ 32 }
+        ensures value { result ≡ parts.point_at (parts.head (S.cells self.now.source.now)) p }
+        ensures bounded { result ≤ 2661 }
+    {
+        self.edge_at(self.head.edges as usize) + p * (self.rows_of_point() * self.row_width())
+    }
 
-pub(crate) fn start_line_at(head: &Head, k: usize) -> usize
-    requires { k ≤ 6 }
-    ensures { (result ≡ view.start_line_at (counts_of head.now) k) × (result ≤ 2691) }
-{
-    point_at(head, points(head)) + k * (1 + head.start_rows as usize)
-}
+    pub(crate) fn start_line_at(&self, k: usize) -> usize
+        requires { k ≤ 6 }
+        ensures value { result ≡ parts.start_line_at (parts.head (S.cells self.now.source.now)) k }
+        ensures bounded { result ≤ 2691 }
+    {
+        self.point_at(self.points()) + k * (1 + self.head.start_rows as usize)
+    }
 
-pub(crate) fn move_hypotheses(head: &Head) -> usize
-    ensures { (result ≡ view.move_hypotheses (counts_of head.now)) × (result ≤ 18) }
-{
-    rows_of_point(head) + head.guards as usize + head.propositions as usize
-}
+    pub(crate) fn move_hypotheses(&self) -> usize
+        ensures value { result ≡ parts.move_hypotheses (parts.head (S.cells self.now.source.now)) }
+        ensures bounded { result ≤ 18 }
+    {
+        self.rows_of_point() + self.head.guards as usize + self.head.propositions as usize
+    }
 
-pub(crate) fn conclusions_of(head: &Head) -> usize
-    ensures { (result ≡ conclusions (counts_of head.now)) × (result ≤ 8) }
-{
-    head.region_rows as usize + 2 * head.rank_numbers as usize
-}
+    pub(crate) fn conclusions_of(&self) -> usize
+        ensures value { result ≡ conclusions (parts.head (S.cells self.now.source.now)) }
+        ensures bounded { result ≤ 8 }
+    {
+        self.head.region_rows as usize + 2 * self.head.rank_numbers as usize
+    }
 
-pub(crate) fn move_at(head: &Head, m: usize) -> usize
-    requires { m ≤ 192 }
-    ensures { (result ≡ view.move_at (counts_of head.now) m) × (result ≤ 32067) }
-{
-    start_line_at(head, rows_of_point(head))
-        + m * (1 + conclusions_of(head) * (1 + move_hypotheses(head)))
-}
+    pub(crate) fn move_at(&self, m: usize) -> usize
+        requires { m ≤ 192 }
+        ensures value { result ≡ parts.move_at (parts.head (S.cells self.now.source.now)) m }
+        ensures bounded { result ≤ 32067 }
+    {
+        self.start_line_at(self.rows_of_point())
+            + m * (1 + self.conclusions_of() * (1 + self.move_hypotheses()))
+    }
 
-pub(crate) fn move_line_at(head: &Head, m: usize, k: usize) -> usize
-    requires { (m ≤ 192) × (k ≤ 8) }
-    ensures { (result ≡ view.move_line_at (counts_of head.now) m k) × (result ≤ 32220) }
-{
-    move_at(head, m) + 1 + k * (1 + move_hypotheses(head))
-}
+    pub(crate) fn move_line_at(&self, m: usize, k: usize) -> usize
+        requires place { m ≤ 192 }
+        requires line { k ≤ 8 }
+        ensures value { result ≡ parts.move_line_at (parts.head (S.cells self.now.source.now)) m k }
+        ensures bounded { result ≤ 32220 }
+    {
+        self.move_at(m) + 1 + k * (1 + self.move_hypotheses())
+    }
 
-pub(crate) fn shown_at(head: &Head, i: usize) -> usize
-    requires { i ≤ 6 }
-    ensures { (result ≡ view.shown_at (counts_of head.now) i) × (result ≤ 2667) }
-{
-    point_at(head, points(head)) + i
-}
+    pub(crate) fn shown_at(&self, i: usize) -> usize
+        requires { i ≤ 6 }
+        ensures value { result ≡ parts.shown_at (parts.head (S.cells self.now.source.now)) i }
+        ensures bounded { result ≤ 2667 }
+    {
+        self.point_at(self.points()) + i
+    }
 
-pub(crate) fn point_conclusions(head: &Head) -> usize
-    ensures { (result ≡ view.point_conclusions (counts_of head.now)) × (result ≤ 20) }
-{
-    head.guards as usize + head.propositions as usize + conclusions_of(head)
-}
+    pub(crate) fn point_conclusions(&self) -> usize
+        ensures value { result ≡ parts.point_conclusions (parts.head (S.cells self.now.source.now)) }
+        ensures bounded { result ≤ 20 }
+    {
+        self.head.guards as usize + self.head.propositions as usize + self.conclusions_of()
+    }
 
-pub(crate) fn choice_at(head: &Head, p: usize) -> usize
-    requires { p ≤ 32 }
-    ensures { (result ≡ view.choice_at (counts_of head.now) p) × (result ≤ 7243) }
-{
-    shown_at(head, head.variables as usize)
-        + p * (3 + point_conclusions(head) * (1 + rows_of_point(head)))
-}
+    pub(crate) fn choice_at(&self, p: usize) -> usize
+        requires { p ≤ 32 }
+        ensures value { result ≡ parts.choice_at (parts.head (S.cells self.now.source.now)) p }
+        ensures bounded { result ≤ 7243 }
+    {
+        self.shown_at(self.head.variables as usize)
+            + p * (3 + self.point_conclusions() * (1 + self.rows_of_point()))
+    }
 
-pub(crate) fn point_line_at(head: &Head, p: usize, k: usize) -> usize
-    requires { (p ≤ 32) × (k ≤ 20) }
-    ensures { (result ≡ view.point_line_at (counts_of head.now) p k) × (result ≤ 7386) }
-{
-    choice_at(head, p) + 3 + k * (1 + rows_of_point(head))
+    pub(crate) fn point_line_at(&self, p: usize, k: usize) -> usize
+        requires place { p ≤ 32 }
+        requires line { k ≤ 20 }
+        ensures value { result ≡ parts.point_line_at (parts.head (S.cells self.now.source.now)) p k }
+        ensures bounded { result ≤ 7386 }
+    {
+        self.choice_at(p) + 3 + k * (1 + self.rows_of_point())
+    }
 }

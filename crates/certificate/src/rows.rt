@@ -5,6 +5,9 @@ ghost use Rattle.certificate.specs.Arrays.{row_of, RowWithin, Short, AllShort, W
 
 use crate::line::product;
 
+// A constant and up to six coefficients.
+pub(crate) type Row = [i64; 7];
+
 pub(crate) fn zero_row() -> [i64; 7]
     ensures { row_of result ≡ rows.zero_row }
 {

@@ -1,7 +1,0 @@
-use Rattle.std.proofs.Common.{◌≡◌, ◌+◌, length}
-use Rattle.dossier.specs.Dossier as view
-use Rattle.certificate.proofs.Fill.{Filled}
-use Rattle.certificate.proofs.cells.row_at.Given as goal
-
-abbrev pub invariant-loop-j : goal.invariant-loop-j
-invariant-loop-j g l = (length l.row ≡ 7) × Filled l.row l.j (λ k. view.cell (g.S.Source.cells l.source) (l.at + k))

@@ -1,9 +1,0 @@
-use Rattle.std.proofs.Common.{◌≡◌, ◌++◌}
-use Rattle.dossier.specs.Kinds.{fall_row}
-use Rattle.dossier.specs.Rows.{each}
-use Rattle.certificate.specs.Arrays.{held}
-use Rattle.certificate.specs.Falls.{rows_from}
-use Rattle.certificate.proofs.falls.push_falls.Given as goal
-
-abbrev pub invariant-loop-index : goal.invariant-loop-index
-invariant-loop-index g l = held l.table ≡ held l.initial.table ++ each l.index (λ i. fall_row (g.K.RankKind.kind.fall l.mode i) (rows_from (held l.old) l.old_at) (rows_from (held l.initial.table) l.new_at))

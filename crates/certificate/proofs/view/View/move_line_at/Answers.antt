@@ -1,0 +1,6 @@
+use Rattle.certificate.proofs.Places.{at}
+use Rattle.std.proofs.Common.{arith}
+use Rattle.certificate.proofs.view.View.move_line_at.Goals as goal
+
+pub returns-clause-bounded : goal.returns-clause-bounded
+returns-clause-bounded g c = at _ _ _ 32068 8 19 (omega arith) c.requires.line (omega arith)

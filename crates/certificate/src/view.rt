@@ -1,0 +1,56 @@
+// A dossier's cells for reading, with the head at hand.
+ghost use Rattle.std.specs.Prelude.{◌≡◌, ◌^◌, ◌<◌, ◌≤◌};
+ghost use Rattle.layout.specs.Heads.{counts_of};
+ghost use Rattle.dossier.specs.Dossier as parts;
+ghost use Rattle.dossier.specs.Ranges.{SmallRow};
+ghost use Rattle.certificate.specs.Arrays.{row_of, Short};
+
+use crate::rows::Row;
+use layout::head::Head;
+use sources::source::Source;
+
+#[derive(Drop)]
+pub(crate) struct View<'a, S: Source> {
+    pub(crate) source: &'a S,
+    pub(crate) head: Head,
+    ghost agrees: { counts_of head ≡ parts.head (S.cells source.now) },
+}
+
+impl<'a, S: Source> View<'a, S> {
+    pub(crate) fn of(source: &'a S) -> Self
+        ensures { result.source ≡ source.entry }
+    {
+        View {
+            source,
+            head: source.head(),
+        }
+    }
+
+    pub(crate) fn cell(&self, index: usize) -> i32
+        ensures { result ≡ parts.cell (S.cells self.now.source.now) index }
+    {
+        self.source.cell(index)
+    }
+
+    // The number that stands at an index where a count is due.
+    pub(crate) fn number(&self, index: usize) -> usize
+        ensures value { result ≡ parts.number (S.cells self.now.source.now) index }
+        ensures bounded { result < 2 ^ 31 }
+    {
+        let cell = self.cell(index);
+        if cell < 0 { 0 } else { cell as usize }
+    }
+
+    // The row whose constant stands at an index.
+    pub(crate) fn row_at(&self, at: usize) -> Row
+        requires { at < 2 ^ 32 }
+        ensures value { row_of result ≡ parts.row_at (S.cells self.now.source.now) at }
+        ensures small { SmallRow (S.cells self.now.source.now) at → Short result }
+    {
+        let mut row = [0; 7];
+        for j in 0..self.head.variables as usize + 1 {
+            row[j] = self.cell(at + j) as i64;
+        }
+        row
+    }
+}
