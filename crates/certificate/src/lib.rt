@@ -5,6 +5,7 @@ pub mod admitted;
 pub mod kind;
 mod line;
 mod offset;
+mod points;
 mod rows;
 mod standing;
 mod table;
