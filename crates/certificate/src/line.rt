@@ -3,9 +3,12 @@ ghost use Rattle.std.specs.Prelude.{◌≡◌, ℕ, ◌*◌, ◌<◌, ◌≤◌,
 ghost use Rattle.dossier.specs.Lines.{sums, line_holds};
 ghost use Rattle.certificate.specs.Arrays.{row_of, rows_of, Within, RowWithin, Weighted, Multiplied, wide};
 
+use crate::rows::Row;
+
 // A multiplier, a divisor or a coefficient times a number of a row.
 pub(crate) fn product(factor: i64, number: i64) -> i64
-    requires { (Within 1048576 factor) × (Within wide number) }
+    requires factor { Within 1048576 factor }
+    requires number { Within wide number }
     ensures value { result ≡ factor *ℤ number }
     ensures bounded { Within 36028797018963968 result }
     ensures within { (a b : ℕ) → Within a factor → Within b number → Within (a * b) result }
@@ -14,8 +17,9 @@ pub(crate) fn product(factor: i64, number: i64) -> i64
 }
 
 // The sum of multipliers times hypotheses, in a column.
-fn column_sum(multipliers: &[i64], hypotheses: &[[i64; 7]], column: usize) -> i64
-    requires { (column < 7) × (Multiplied multipliers.now hypotheses.now) }
+fn column_sum(multipliers: &[i64], hypotheses: &[Row], column: usize) -> i64
+    requires column { column < 7 }
+    requires sum { Multiplied multipliers.now hypotheses.now }
     ensures value { result ≡ sums multipliers.now (rows_of hypotheses.now) column }
     ensures bounded { Weighted multipliers.now hypotheses.now → (negsuc 2473901162495 ≤ℤ result) × (result ≤ℤ pos 2473901162496) }
 {
@@ -32,10 +36,13 @@ pub(crate) fn line_holds(
     variables: usize,
     divisor: i64,
     multipliers: &[i64],
-    hypotheses: &[[i64; 7]],
-    conclusion: &[i64; 7],
+    hypotheses: &[Row],
+    conclusion: &Row,
 ) -> bool
-    requires { (variables ≤ 6) × (((pos 0 ≤ℤ divisor) × (divisor ≤ℤ pos 1048575)) × ((Multiplied multipliers.now hypotheses.now) × (RowWithin wide (row_of conclusion.now)))) }
+    requires variables { variables ≤ 6 }
+    requires divisor { (pos 0 ≤ℤ divisor) × (divisor ≤ℤ pos 1048575) }
+    requires sum { Multiplied multipliers.now hypotheses.now }
+    requires shown { RowWithin wide (row_of conclusion.now) }
     ensures { result ≡ line_holds variables divisor multipliers.now (rows_of hypotheses.now) (row_of conclusion.now) }
 {
     for j in 0..variables {

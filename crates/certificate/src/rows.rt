@@ -8,14 +8,14 @@ use crate::line::product;
 // A constant and up to six coefficients.
 pub(crate) type Row = [i64; 7];
 
-pub(crate) fn zero_row() -> [i64; 7]
+pub(crate) fn zero_row() -> Row
     ensures { row_of result ≡ rows.zero_row }
 {
     [0; 7]
 }
 
 // The row -1.
-pub(crate) fn minus_one() -> [i64; 7]
+pub(crate) fn minus_one() -> Row
     ensures value { row_of result ≡ rows.minus_one }
     ensures small { Short result }
 {
@@ -23,8 +23,9 @@ pub(crate) fn minus_one() -> [i64; 7]
 }
 
 // One row less another, and the constant less a number.
-pub(crate) fn difference(old: &[i64; 7], new: &[i64; 7], less: u8) -> [i64; 7]
-    requires { (RowWithin long (row_of old.now)) × (RowWithin long (row_of new.now)) }
+pub(crate) fn difference(old: &Row, new: &Row, less: u8) -> Row
+    requires old { RowWithin long (row_of old.now) }
+    requires new { RowWithin long (row_of new.now) }
     ensures { row_of result ≡ rows.less (rows.difference (row_of old.now) (row_of new.now)) less }
 {
     let mut result = [0; 7];
@@ -38,11 +39,14 @@ pub(crate) fn difference(old: &[i64; 7], new: &[i64; 7], less: u8) -> [i64; 7]
 // A column of a row with each variable replaced by a row.
 pub(crate) fn taken_column(
     variables: usize,
-    row: &[i64; 7],
-    updates: &[[i64; 7]; 6],
+    row: &Row,
+    updates: &[Row; 6],
     column: usize,
 ) -> i64
-    requires { (variables ≤ 6) × ((column < 7) × ((RowWithin short (row_of row.now)) × (((v : ℕ) → v < variables → RowWithin wide (row_of (slice_index_or updates.now v [])))))) }
+    requires variables { variables ≤ 6 }
+    requires column { column < 7 }
+    requires row { RowWithin short (row_of row.now) }
+    requires updates { (v : ℕ) → v < variables → RowWithin wide (row_of (slice_index_or updates.now v [])) }
     ensures value { result ≡ rows.taken variables (row_of row.now) (λ v. row_of (slice_index_or updates.now v [])) column }
     ensures bounded { AllShort updates.now → (negsuc 34359738367 ≤ℤ result) × (result ≤ℤ pos 34359738368) }
 {
@@ -55,8 +59,10 @@ pub(crate) fn taken_column(
 }
 
 // A row with each variable replaced by its update row.
-pub(crate) fn taken(variables: usize, row: &[i64; 7], updates: &[[i64; 7]; 6]) -> [i64; 7]
-    requires { (variables ≤ 6) × ((RowWithin short (row_of row.now)) × (((v : ℕ) → v < variables → RowWithin short (row_of (slice_index_or updates.now v []))))) }
+pub(crate) fn taken(variables: usize, row: &Row, updates: &[Row; 6]) -> Row
+    requires variables { variables ≤ 6 }
+    requires row { RowWithin short (row_of row.now) }
+    requires updates { (v : ℕ) → v < variables → RowWithin short (row_of (slice_index_or updates.now v [])) }
     ensures value { row_of result ≡ seven (rows.taken variables (row_of row.now) (λ v. row_of (slice_index_or updates.now v []))) }
     ensures agrees { Agrees result (rows.taken variables (row_of row.now) (λ v. row_of (slice_index_or updates.now v []))) }
     ensures bounded { AllShort updates.now → Wide result }

@@ -11,13 +11,13 @@ use Rattle.certificate.proofs.line.column_sum.Goals as goal
 
 pub product-term-requires : goal.product-term-requires
 product-term-requires c =
-    let w = c.requires.1 in
+    let w = c.requires.sum in
     let inside : c.loop-k.k < length c.args.hypotheses.now = omega (arith, w.long) in
     let m : SFits w64 (get_or c.args.multipliers.now c.loop-k.k (pos 0)) = search rules in
     let h : SFits w64 (get_or (get_or c.args.hypotheses.now c.loop-k.k []) c.args.column (pos 0)) = search rules in
     let row = get_or-map row_of c.args.hypotheses.now c.loop-k.k [] zero_row inside in
     let bound = w.bounded c.loop-k.k (omega (arith, length-map c.args.hypotheses.now row_of)) c.args.column in
-    simp to_z-of_z (factor_within _ (w.factors c.loop-k.k (omega arith)), subst (λ r. Within wide (r c.args.column)) row bound)
+    simp to_z-of_z (record { factor = factor_within _ (w.factors c.loop-k.k (omega arith)); number = subst (λ r. Within wide (r c.args.column)) row bound })
 
 bounded : (c : goal.After-product-term) → Within ((c.loop-k.k + 1) * 36028797018963968) (c.loop-k.sum +ℤ c.product-term.result)
 bounded c =
@@ -25,7 +25,7 @@ bounded c =
     (sum_within (c.loop-k.k * 36028797018963968) 36028797018963968 c.loop-k.sum c.product-term.result (simp c.loop-k.sum-is at c.loop-k.invariant.1) c.product-term.ensures.bounded)
 
 fits : (c : goal.After-product-term) → SFits w64 (c.loop-k.sum +ℤ c.product-term.result)
-fits c = fits_64 _ (within_more _ _ _ (omega (arith, c.requires.1.few)) (bounded c))
+fits c = fits_64 _ (within_more _ _ _ (omega (arith, c.requires.sum.few)) (bounded c))
 
 pub overflow_add-sum : goal.overflow_add-sum
 overflow_add-sum c =
@@ -34,7 +34,7 @@ overflow_add-sum c =
 
 pub loop-k-preserved : goal.loop-k-preserved
 loop-k-preserved c =
-    let w = c.requires.1 in
+    let w = c.requires.sum in
     let inside : c.loop-k.k < length c.args.hypotheses.now = omega (arith, w.long) in
     let m : SFits w64 (get_or c.args.multipliers.now c.loop-k.k (pos 0)) = search rules in
     let h : SFits w64 (get_or (get_or c.args.hypotheses.now c.loop-k.k []) c.args.column (pos 0)) = search rules in

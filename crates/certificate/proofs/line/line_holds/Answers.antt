@@ -12,13 +12,13 @@ pub product-requires : goal.product-requires
 product-requires c =
     let d : SFits w64 c.args.divisor = c.ranges.divisor in
     let n : SFits w64 (get_or c.args.conclusion.now (c.loop-j.j + 1) (pos 0)) = search rules in
-    simp to_z-of_z (factor_within _ c.requires.1.0, c.requires.1.1.1 (c.loop-j.j + 1))
+    simp to_z-of_z (record { factor = factor_within _ c.requires.divisor; number = c.requires.shown (c.loop-j.j + 1) })
 
 pub product-requires-2 : goal.product-requires-2
 product-requires-2 c =
     let d : SFits w64 c.args.divisor = c.ranges.divisor in
     let n : SFits w64 (get_or c.args.conclusion.now 0 (pos 0)) = search rules in
-    simp to_z-of_z (factor_within _ c.requires.1.0, c.requires.1.1.1 0)
+    simp to_z-of_z (record { factor = factor_within _ c.requires.divisor; number = c.requires.shown 0 })
 
 pub returns-then-product-column_sum : goal.returns-then-product-column_sum
 returns-then-product-column_sum c =

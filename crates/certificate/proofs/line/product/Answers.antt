@@ -5,7 +5,7 @@ use Rattle.certificate.proofs.Bounds.{product_within, within_more, fits_64}
 use Rattle.certificate.proofs.line.product.Goals as goal
 
 bounded : (c : goal.Start) → Within 36028797018963968 (c.args.factor *ℤ c.args.number)
-bounded c = product_within 1048576 34359738368 c.args.factor c.args.number c.requires.0 c.requires.1
+bounded c = product_within 1048576 34359738368 c.args.factor c.args.number c.requires.factor c.requires.number
 
 fits : (c : goal.Start) → SFits w64 (c.args.factor *ℤ c.args.number)
 fits c = fits_64 _ (within_more 36028797018963968 _ _ (omega arith) (bounded c))

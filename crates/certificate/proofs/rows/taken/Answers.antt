@@ -28,5 +28,5 @@ returns c =
       bounded = λ s j.
           subst (λ z. (negsuc 34359738367 ≤ℤ z) × (z ≤ℤ pos 34359738368)) (sym (ap (λ r. r j) (made c)))
           (within_more 8589934592 34359738368 _ (omega arith)
-          (seven_within 8589934592 whole (taken_within c.args.variables (row_of c.args.row.now) (λ v. row_of (get_or c.args.updates.now v [])) c.requires.0 c.requires.1.0 (λ v l. c.requires.1.1 v l)) j));
+          (seven_within 8589934592 whole (taken_within c.args.variables (row_of c.args.row.now) (λ v. row_of (get_or c.args.updates.now v [])) c.requires.variables c.requires.row (λ v l. c.requires.updates v l)) j));
     }

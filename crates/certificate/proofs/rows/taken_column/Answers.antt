@@ -12,7 +12,7 @@ pub product-term-requires : goal.product-term-requires
 product-term-requires c =
     let a : SFits w64 (get_or c.args.row.now (c.loop-v.v + 1) (pos 0)) = search rules in
     let b : SFits w64 (get_or (get_or c.args.updates.now c.loop-v.v []) c.args.column (pos 0)) = search rules in
-    simp to_z-of_z (within_more 32768 1048576 _ (omega arith) (c.requires.1.1.0 (c.loop-v.v + 1)), c.requires.1.1.1 c.loop-v.v (omega arith) c.args.column)
+    simp to_z-of_z (record { factor = within_more 32768 1048576 _ (omega arith) (c.requires.row (c.loop-v.v + 1)); number = c.requires.updates c.loop-v.v (omega arith) c.args.column })
 
 bounded : (c : goal.After-product-term) → Within (32768 + (c.loop-v.v + 1) * 36028797018963968) (c.loop-v.sum +ℤ c.product-term.result)
 bounded c =
@@ -20,7 +20,7 @@ bounded c =
     (sum_within (32768 + c.loop-v.v * 36028797018963968) 36028797018963968 c.loop-v.sum c.product-term.result (simp c.loop-v.sum-is at c.loop-v.invariant.1) c.product-term.ensures.bounded)
 
 fits : (c : goal.After-product-term) → SFits w64 (c.loop-v.sum +ℤ c.product-term.result)
-fits c = fits_64 _ (within_more _ _ _ (omega (arith, c.requires.0)) (bounded c))
+fits c = fits_64 _ (within_more _ _ _ (omega (arith, c.requires.variables)) (bounded c))
 
 pub overflow_add-sum : goal.overflow_add-sum
 overflow_add-sum c =
@@ -51,4 +51,4 @@ returns-clause-bounded c =
     simp c.loop-v.sum-is λ s.
     subst (λ z. (negsuc 34359738367 ≤ℤ z) × (z ≤ℤ pos 34359738368)) (sym (made c))
     (within_more 8589934592 34359738368 _ (omega arith)
-    (taken_within c.args.variables (row_of c.args.row.now) (λ v. row_of (get_or c.args.updates.now v [])) c.requires.0 c.requires.1.1.0 (λ v l. short_row (get_or c.args.updates.now v []) (s v)) c.args.column))
+    (taken_within c.args.variables (row_of c.args.row.now) (λ v. row_of (get_or c.args.updates.now v [])) c.requires.variables c.requires.row (λ v l. short_row (get_or c.args.updates.now v []) (s v)) c.args.column))

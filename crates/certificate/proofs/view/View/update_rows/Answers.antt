@@ -1,0 +1,15 @@
+use Rattle.std.proofs.Common.{◌≡◌, ◌<◌, length, ap, ◌∙◌, arith, length-set}
+use Rattle.dossier.specs.Dossier as parts
+use Rattle.certificate.proofs.Tables.{set_more}
+use Rattle.certificate.proofs.view.View.update_rows.Goals as goal
+
+pub loop-v-preserved : goal.loop-v-preserved
+loop-v-preserved g c =
+    let cells = g.S.Source.cells c.args.self.now.source.now in
+    let inside : c.loop-v.v < length c.loop-v.rows = omega arith in
+    (length-set _ _ _ ∙ c.loop-v.invariant.0, set_more c.loop-v.rows c.loop-v.v c.update.result (parts.update cells c.args.step) inside c.update.ensures c.loop-v.invariant.1)
+
+pub returns : goal.returns
+returns g c v l =
+    let variables : c.args.self.now.head.variables ≡ (parts.head (g.S.Source.cells c.args.self.now.source.now)).variables = ap (λ h. h.variables) c.args.self.now.agrees in
+    c.loop-v.invariant.1 v (omega arith)
