@@ -8,6 +8,9 @@ use Rattle.certificate.specs.Arrays.{row_of, rows_of, held}
 pub held_length : (t : ArrayVec (List ℤ)) → length (held t) ≡ length t.items
 held_length t = length-map t.items row_of
 
+pub held_new : (t : ArrayVec (List ℤ)) → t.items ≡ [] → held t ≡ []
+held_new t e = ap rows_of e
+
 -- one row more
 pub held_push : (t u : ArrayVec (List ℤ)) (row : List ℤ) → u.items ≡ t.items ++ row ∷ [] → held u ≡ held t ++ row_of row ∷ []
 held_push t u row e = ap rows_of e ∙ map-append row_of t.items (row ∷ [])

@@ -3,12 +3,15 @@
 
 pub mod admitted;
 pub mod kind;
+mod conclude;
 mod falls;
 mod judge;
 mod line;
+mod moves;
 mod offset;
 mod points;
 mod propositions;
+mod ranked;
 mod rows;
 mod shown;
 mod standing;
