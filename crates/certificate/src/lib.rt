@@ -4,6 +4,7 @@
 pub mod admitted;
 pub mod kind;
 mod conclude;
+mod every_run;
 mod falls;
 mod judge;
 mod line;
@@ -14,6 +15,7 @@ mod propositions;
 mod ranked;
 mod rows;
 mod shown;
+mod some_run;
 mod standing;
 mod table;
 mod taken;

@@ -1,4 +1,6 @@
-use Rattle.std.proofs.Common.{◌/◌, ◌%◌, ◌<◌, length, sym, ap, subst, arith}
+use Rattle.std.proofs.Common.{◌≡◌, ◌/◌, ◌%◌, ◌<◌, false, cond, eqb, ◌++◌, length, sym, ap, ◌∙◌, subst, ap₂, arith}
+use Rattle.std.proofs.lemmas.Bool.{ne_eqb}
+use Rattle.layout.specs.Layout.{conclusions}
 use Rattle.dossier.specs.Admission as admission
 use Rattle.dossier.specs.Dossier as parts
 use Rattle.dossier.proofs.CellRanges.{program_ranges}
@@ -29,4 +31,13 @@ push_conclusions-requires g c =
     }
 
 pub returns : goal.returns
-returns g c = ?
+returns g c =
+    let cells = g.S.Source.cells c.args.self.now.view.source.now in
+    let m = c.args.index in
+    let kind = g.K.RankKind.kind in
+    let claims = admission.move_conclusions cells kind (parts.move_mode cells m) (admission.move_step cells m) (admission.move_edge cells m) in
+    let some : eqb (parts.move_mode cells m) 0 ≡ false = ne_eqb _ 0 (λ e. c.if-mode-eq0.false (c.move_mode-mode.ensures ∙ e)) in
+    c.push_conclusions.ensures
+    ∙ ap (λ xs. xs ++ admission.move_conclusions cells kind c.move_mode-mode.result (m / c.args.self.now.view.head.edges) (m % c.args.self.now.view.head.edges)) (held_new _ c.new-table.ensures)
+    ∙ ap₂ (λ k n. admission.move_conclusions cells kind k (m / n) (m % n)) c.move_mode-mode.ensures (ap (λ h. h.edges) c.args.self.now.view.agrees)
+    ∙ sym (ap (λ b. cond b (admission.impossible cells (conclusions (parts.head cells))) claims) some)
