@@ -41,7 +41,7 @@ impl<'a, S: Source, K: RankKind> Ranked<'a, S, K> {
     {
         let edges = self.view.head.edges as usize;
         let mut failing = None;
-        'search: for index in 0..self.view.head.steps as usize * edges {
+        'search: for index in 0..self.view.moves() {
             let assumed = self
                 .view
                 .move_hypotheses_of(index / edges, index % edges);

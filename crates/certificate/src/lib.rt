@@ -1,11 +1,13 @@
 // Rank kinds, and the admission of dossiers of any source at any rank kind.
 #![tactic(auto)]
 
+pub mod admit;
 pub mod admitted;
 pub mod kind;
 mod conclude;
 mod every_run;
 mod falls;
+pub mod form_tests;
 mod judge;
 mod line;
 mod moves;

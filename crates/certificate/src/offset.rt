@@ -1,6 +1,7 @@
 // Where the parts of a dossier begin in its cells.
 ghost use Rattle.std.specs.Prelude.{◌≡◌, ◌+◌, ◌*◌, ◌<◌, ◌≤◌};
 ghost use Rattle.layout.specs.Layout.{point_rows, conclusions};
+ghost use Rattle.dossier.specs.Admission.{moves};
 ghost use Rattle.dossier.specs.Dossier as parts;
 
 use crate::view::View;
@@ -104,6 +105,13 @@ impl<'a, S: Source> View<'a, S> {
         ensures bounded { result ≤ 8 }
     {
         self.head.region_rows as usize + 2 * self.head.rank_numbers as usize
+    }
+
+    pub(crate) fn moves(&self) -> usize
+        ensures value { result ≡ moves (S.cells self.now.source.now) }
+        ensures bounded { result ≤ 192 }
+    {
+        self.head.steps as usize * self.head.edges as usize
     }
 
     pub(crate) fn move_at(&self, m: usize) -> usize
