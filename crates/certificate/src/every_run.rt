@@ -42,9 +42,7 @@ impl<'a, S: Source, K: RankKind> Ranked<'a, S, K> {
         let edges = self.view.head.edges as usize;
         let mut failing = None;
         'search: for index in 0..self.view.moves() {
-            let assumed = self
-                .view
-                .move_hypotheses_of(index / edges, index % edges);
+            let assumed = self.view.move_hypotheses_of(index / edges, index % edges);
             let hypotheses = assumed.as_slice();
             let conclusions = self.move_claims(index, hypotheses);
             for (line, conclusion) in conclusions.as_slice().iter().enumerate() {

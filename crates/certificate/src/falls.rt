@@ -24,11 +24,7 @@ fn fallen(old: &Ranks<'_>, new: &Ranks<'_>, number: usize, less: u8) -> Row
     requires new { There (rows_of new.now.rows.now) new.now.at number }
     ensures { row_of result ≡ rows.less (rows.difference (rows_from (rows_of old.now.rows.now) old.now.at number) (rows_from (rows_of new.now.rows.now) new.now.at number)) less }
 {
-    difference(
-        &old.rows[old.at + number],
-        &new.rows[new.at + number],
-        less,
-    )
+    difference(&old.rows[old.at + number], &new.rows[new.at + number], less)
 }
 
 fn fall_row(fall: Fall, old: &Ranks<'_>, new: &Ranks<'_>) -> Row

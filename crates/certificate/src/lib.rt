@@ -3,15 +3,16 @@
 
 pub mod admit;
 pub mod admitted;
-pub mod kind;
 mod conclude;
 mod every_run;
 mod falls;
 pub mod form_tests;
 mod judge;
+pub mod kind;
 mod line;
 mod moves;
 mod offset;
+pub mod parts;
 mod points;
 mod propositions;
 mod ranked;

@@ -37,12 +37,7 @@ pub(crate) fn difference(old: &Row, new: &Row, less: u8) -> Row
 }
 
 // A column of a row with each variable replaced by a row.
-pub(crate) fn taken_column(
-    variables: usize,
-    row: &Row,
-    updates: &[Row; 6],
-    column: usize,
-) -> i64
+pub(crate) fn taken_column(variables: usize, row: &Row, updates: &[Row; 6], column: usize) -> i64
     requires variables { variables ≤ 6 }
     requires column { column < 7 }
     requires row { RowWithin short (row_of row.now) }

@@ -1,4 +1,4 @@
-use Rattle.std.proofs.Common.{◌≡◌, ℕ, ◌+◌, ◌<◌, List, [], length, get_or, ℤ, sym, ◌∙◌, subst, ap₂, arith}
+use Rattle.std.proofs.Common.{◌≡◌, ℕ, ◌+◌, List, [], get_or, ℤ, sym, ◌∙◌, subst, ap₂, arith}
 use Rattle.std.proofs.lemmas.List.{length-map, get_or-map}
 use Rattle.dossier.specs.Rows.{less, difference, zero_row}
 use Rattle.certificate.specs.Arrays.{row_of, rows_of, RowWithin, long}

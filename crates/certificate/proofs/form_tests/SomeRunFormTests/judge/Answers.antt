@@ -1,4 +1,4 @@
-use Rattle.std.proofs.Common.{◌≡◌, ◌+◌, ◌*◌, Some, None, Ok, sym, ap, ◌∙◌, ap₂}
+use Rattle.std.proofs.Common.{◌*◌, Some, None, Ok, sym, ap, ◌∙◌, ap₂}
 use Rattle.std.proofs.lemmas.Result.{err_from_is_err_and}
 use Rattle.layout.specs.Heads.{counts_of}
 use Rattle.dossier.specs.Admission.{admit_some_run}

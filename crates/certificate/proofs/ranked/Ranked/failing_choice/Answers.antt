@@ -1,4 +1,4 @@
-use Rattle.std.proofs.Common.{◌≡◌, ◌<◌, [], ◌++◌, length, sym, refl, ap, ◌∙◌, arith}
+use Rattle.std.proofs.Common.{◌≡◌, ◌<◌, sym, refl, ap, ◌∙◌, arith}
 use Rattle.layout.specs.Forms.{form_number}
 use Rattle.layout.specs.Layout.{point_rows}
 use Rattle.dossier.specs.declared.fault.AdmitFault.TheVariants.{PointLine}

@@ -1,4 +1,4 @@
-use Rattle.std.proofs.Common.{◌≡◌, ◌*◌, ◌/◌, ◌%◌, ◌<◌, ◌++◌, length, sym, refl, ap, ◌∙◌, subst, arith}
+use Rattle.std.proofs.Common.{◌≡◌, ◌*◌, ◌/◌, ◌%◌, ◌<◌, ◌++◌, sym, refl, ap, ◌∙◌, subst, arith}
 use Rattle.layout.specs.Forms.{form_number}
 use Rattle.dossier.specs.declared.fault.AdmitFault.TheVariants.{MoveLine}
 use Rattle.dossier.specs.Admission as admission

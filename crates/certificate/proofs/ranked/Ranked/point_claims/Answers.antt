@@ -1,4 +1,4 @@
-use Rattle.std.proofs.Common.{◌≡◌, ◌+◌, ◌<◌, false, cond, eqb, [], sym, ap, ◌∙◌, subst, ap₂, append-nil, arith}
+use Rattle.std.proofs.Common.{◌≡◌, false, cond, eqb, [], sym, ap, ◌∙◌, ap₂, append-nil, arith}
 use Rattle.std.proofs.lemmas.Bool.{ne_eqb}
 use Rattle.layout.specs.Forms.{form_number}
 use Rattle.layout.proofs.Count.{formed_ranges}
@@ -7,7 +7,6 @@ use Rattle.dossier.specs.Dossier as parts
 use Rattle.dossier.proofs.CellRanges.{some_run_ranges}
 use Rattle.certificate.proofs.Choosing.{chosen_first}
 use Rattle.certificate.proofs.Places.{few_points}
-use Rattle.certificate.proofs.ranked.Ranked.point_claims.Given as given
 use Rattle.certificate.proofs.ranked.Ranked.point_claims.Goals as goal
 
 pub choice_mode-mode-requires : goal.choice_mode-mode-requires

@@ -3,7 +3,6 @@ use Rattle.std.proofs.lemmas.List.{length-append}
 use Rattle.layout.specs.Layout.{point_rows}
 use Rattle.dossier.specs.Admission as admission
 use Rattle.dossier.specs.Dossier as parts
-use Rattle.dossier.specs.Kinds.{Inside}
 use Rattle.dossier.specs.Rows.{Row}
 use Rattle.dossier.proofs.CellRanges.{program_ranges}
 use Rattle.dossier.proofs.Trials.{length_each}

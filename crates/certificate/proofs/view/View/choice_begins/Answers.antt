@@ -1,4 +1,4 @@
-use Rattle.std.proofs.Common.{◌≡◌, ◌+◌, ◌/◌, ◌%◌, sym, ap, ◌∙◌, arith}
+use Rattle.std.proofs.Common.{◌≡◌, ◌/◌, ◌%◌, sym, ap, ◌∙◌, arith}
 use Rattle.layout.specs.Forms.{form_number}
 use Rattle.layout.proofs.Count.{formed_ranges}
 use Rattle.dossier.specs.Dossier as parts

@@ -1,4 +1,4 @@
-use Rattle.std.proofs.Common.{◌≡◌, ◌<◌, sym, ap, ◌∙◌, subst, ap₂, arith}
+use Rattle.std.proofs.Common.{◌≡◌, ◌<◌, sym, ap, subst, arith}
 use Rattle.dossier.specs.Admission as admission
 use Rattle.dossier.specs.Dossier as parts
 use Rattle.dossier.proofs.CellRanges.{program_ranges}

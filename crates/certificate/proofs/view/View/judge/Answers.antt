@@ -1,6 +1,5 @@
 use Rattle.std.proofs.Common.{◌≡◌, ℕ, ◌+◌, ◌∷◌, List, [], ◌++◌, length, ℤ, pos, ◌≤ℤ◌, sym, refl, ap, ◌∙◌, subst, ap₂, arith, w32, w64, SFits, to_z, of_z, rules}
 use lib.Signed.{le_z, le_z_yes}
-use Rattle.std.proofs.lemmas.List.{length-map}
 use Rattle.std.proofs.lemmas.Int.{ints, to_z-of_z}
 use Rattle.layout.proofs.Count.{both_left, both_right}
 use Rattle.dossier.specs.Dossier as parts
@@ -10,7 +9,6 @@ use Rattle.dossier.proofs.Trials.{length_each}
 use Rattle.certificate.specs.Arrays.{row_of, rows_of, Multiplied}
 use Rattle.certificate.proofs.Eaches.{each_more}
 use Rattle.certificate.proofs.Weights.{weighted}
-use Rattle.certificate.proofs.view.View.judge.Given as given
 use Rattle.certificate.proofs.view.View.judge.Goals as goal
 
 same_line : (hs : List Row) (r : Row) {v v' : ℕ} {d d' : ℤ} {ms ms' : List ℤ} → v ≡ v' → d ≡ d' → ms ≡ ms' → line_holds v d ms hs r ≡ line_holds v' d' ms' hs r

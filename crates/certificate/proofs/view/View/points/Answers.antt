@@ -1,4 +1,3 @@
-use Rattle.std.proofs.Common.{refl}
 use Rattle.std.proofs.lemmas.Nat.{mul-le}
 use Rattle.certificate.proofs.view.View.points.Goals as goal
 

@@ -1,9 +1,8 @@
-use Rattle.std.proofs.Common.{◌≡◌, ◌<◌, ◌++◌, sym, ap, ◌∙◌, subst, ap₂}
+use Rattle.std.proofs.Common.{◌<◌, ◌++◌, sym, ap, ◌∙◌, subst, ap₂}
 use Rattle.dossier.specs.Admission as admission
 use Rattle.dossier.specs.Dossier as parts
 use Rattle.certificate.specs.Arrays.{held}
 use Rattle.certificate.proofs.Groups.{start_below}
-use Rattle.certificate.proofs.view.View.push_start_point.Given as given
 use Rattle.certificate.proofs.view.View.push_start_point.Goals as goal
 
 pub push_point-requires-clause-inside : goal.push_point-requires-clause-inside

@@ -18,7 +18,6 @@ use Rattle.certificate.proofs.Groups.{start_below}
 use Rattle.certificate.proofs.Numbered.{more, fails, done}
 use Rattle.certificate.proofs.Tables.{counted, row_at}
 use Rattle.certificate.proofs.WideRows.{shown_short}
-use Rattle.certificate.proofs.view.View.shown_hold.Given as given
 use Rattle.certificate.proofs.view.View.shown_hold.Goals as goal
 
 pub push_start_point-requires : goal.push_start_point-requires
