@@ -1,7 +1,8 @@
 // Times the admission of the largest dossiers of both forms: every count at its highest, dense rows and multipliers.
 use crate::timing::Timing;
 use anyhow::anyhow;
-use certificate::admit::{admit_every_run, admit_some_run};
+use certificate::admit::admit;
+use certificate::admitted::{EveryRun, SomeRun};
 use certificate::kind::TwoNumbers;
 use sheet::opening::open;
 use sheet::read::read;
@@ -24,14 +25,14 @@ enum Form {
 // Admits a dossier and hands it back with the number of proof lines, 0 where it is refused.
 fn admitted<S: Source>(source: S, form: Form) -> (S, usize) {
     match form {
-        Form::EveryRun => match admit_every_run(source, TwoNumbers) {
+        Form::EveryRun => match admit(source, TwoNumbers, EveryRun) {
             Ok((lines, admitted)) => {
                 let (source, _) = admitted.release();
                 (source, lines)
             }
             Err(refused) => (refused.source, 0),
         },
-        Form::SomeRun => match admit_some_run(source, TwoNumbers) {
+        Form::SomeRun => match admit(source, TwoNumbers, SomeRun) {
             Ok((lines, admitted)) => {
                 let (source, _) = admitted.release();
                 (source, lines)

@@ -11,7 +11,6 @@ pub mod FallRows
 pub mod Fill
 pub mod Groups
 pub mod HypothesisRows
-pub mod Narrower
 pub mod Numbered
 pub mod Places
 pub mod RowBounds

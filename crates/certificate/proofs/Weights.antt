@@ -1,11 +1,12 @@
 -- The multipliers of a line with its hypotheses.
-use Rattle.std.proofs.Common.{◌≡◌, ℕ, ◌<◌, ◌≤◌, T, List, length, ℤ, pos, ◌∙◌, arith}
+use Rattle.std.proofs.Common.{◌≡◌, ℕ, suc, ◌<◌, ◌≤◌, T, List, ◌∷◌, length, ℤ, pos, ◌∙◌, arith}
 use lib.Signed.{le_z, le_z_yes}
 use Rattle.layout.specs.Cells.{between}
 use Rattle.layout.proofs.Count.{both_left, both_right}
 use Rattle.dossier.specs.Rows.{each}
 use Rattle.dossier.proofs.Trials.{length_each, getD_each}
-use Rattle.certificate.specs.Arrays.{rows_of, RowsWithin, wide, Multiplied}
+use Rattle.certificate.specs.Arrays.{row_of, rows_of, Within, RowsWithin, wide, Multiplied}
+use Rattle.certificate.proofs.Bounds.{factor_within}
 
 pub weighted : (n : ℕ) (f : ℕ → ℤ) (rows : List (List ℤ)) → n ≡ length rows → n ≤ 18 → ((k : ℕ) → k < n → T (between (pos 0) (pos 1048575) (f k))) → RowsWithin wide (rows_of rows) → Multiplied (each n f) rows
 weighted n f rows long few factors bounded = record {
@@ -18,3 +19,19 @@ weighted n f rows long few factors bounded = record {
       (rw same (le_z_yes (both_left _ _ t)), rw same (le_z_yes (both_right (le_z (pos 0) (f k)) _ t)));
   bounded = bounded;
 }
+
+-- the first multiplier with its hypothesis, and the others
+module _ {m : ℤ} {ms : List ℤ} {h : List ℤ} {hs : List (List ℤ)} (all : Multiplied (m ∷ ms) (h ∷ hs)) where
+  pub first_factor : Within 1048576 m
+  first_factor = factor_within m (all.factors 0 (omega arith))
+
+  pub first_number : (j : ℕ) → Within wide (row_of h j)
+  first_number j = all.bounded 0 (omega arith) j
+
+  pub others : Multiplied ms hs
+  others = record {
+    long = omega (arith, all.long);
+    few = omega (arith, all.few);
+    factors = λ k l. all.factors (suc k) (omega arith);
+    bounded = λ k l. all.bounded (suc k) (omega arith);
+  }

@@ -55,34 +55,3 @@ pub record Multiplied (ms : List ℤ) (rows : List (List ℤ)) : Type 0 where
   pub few : length ms ≤ 18
   pub factors : Factors ms
   pub bounded : RowsWithin wide (rows_of rows)
-
--- narrower bounds, under which a sum is smaller ---------------------------------------------------
-
--- every number of a row is small enough that sums of products stay exact
-abbrev pub Moderate : List ℤ → Type 0
-Moderate row = (j : ℕ) → (negsuc 131071 ≤ℤ slice_index_or row j (pos 0)) × (slice_index_or row j (pos 0) ≤ℤ pos 131072)
-
-abbrev pub AllModerate : List (List ℤ) → Type 0
-AllModerate rows = (k : ℕ) → k < length rows → Moderate (slice_index_or rows k [])
-
--- hypotheses with a multiplier each, at most eighteen
-pub record Weighted (ms : List ℤ) (rows : List (List ℤ)) : Type 0 where
-  pub long : length ms ≡ length rows
-  pub few : length ms ≤ 18
-  pub factors : Factors ms
-  pub moderate : AllModerate rows
-
--- the numbers of a conclusion, which may be sums of products themselves
-abbrev pub Wide : List ℤ → Type 0
-Wide row = (j : ℕ) → (negsuc 34359738367 ≤ℤ slice_index_or row j (pos 0)) × (slice_index_or row j (pos 0) ≤ℤ pos 34359738368)
-
--- the numbers of a row as a sheet has them
-abbrev pub Short : List ℤ → Type 0
-Short row = (j : ℕ) → (negsuc 32767 ≤ℤ slice_index_or row j (pos 0)) × (slice_index_or row j (pos 0) ≤ℤ pos 32767)
-
-abbrev pub AllShort : List (List ℤ) → Type 0
-AllShort rows = (k : ℕ) → Short (slice_index_or rows k [])
-
--- the columns that there are agree with a row
-abbrev pub Agrees : List ℤ → Row → Type 0
-Agrees numbers row = (j : ℕ) → j < 7 → slice_index_or numbers j (pos 0) ≡ row j

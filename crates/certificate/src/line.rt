@@ -1,7 +1,7 @@
 // The test of a proof line.
 ghost use Rattle.std.specs.Prelude.{◌≡◌, ℕ, ◌*◌, ◌<◌, ◌≤◌, pos, negsuc, ◌*ℤ◌, ◌≤ℤ◌};
 ghost use Rattle.dossier.specs.Lines.{sums, line_holds};
-ghost use Rattle.certificate.specs.Arrays.{row_of, rows_of, Within, RowWithin, Weighted, Multiplied, wide};
+ghost use Rattle.certificate.specs.Arrays.{row_of, rows_of, Within, RowWithin, Multiplied, wide};
 
 use crate::rows::Row;
 
@@ -11,7 +11,6 @@ pub(crate) fn product(factor: i64, number: i64) -> i64
     requires number { Within wide number }
     ensures value { result ≡ factor *ℤ number }
     ensures bounded { Within 36028797018963968 result }
-    ensures within { (a b : ℕ) → Within a factor → Within b number → Within (a * b) result }
 {
     factor * number
 }
@@ -20,12 +19,11 @@ pub(crate) fn product(factor: i64, number: i64) -> i64
 fn column_sum(multipliers: &[i64], hypotheses: &[Row], column: usize) -> i64
     requires column { column < 7 }
     requires sum { Multiplied multipliers.now hypotheses.now }
-    ensures value { result ≡ sums multipliers.now (rows_of hypotheses.now) column }
-    ensures bounded { Weighted multipliers.now hypotheses.now → (negsuc 2473901162495 ≤ℤ result) × (result ≤ℤ pos 2473901162496) }
+    ensures { result ≡ sums multipliers.now (rows_of hypotheses.now) column }
 {
     let mut sum = 0;
-    for k in 0..multipliers.len() {
-        let term = product(multipliers[k], hypotheses[k][column]);
+    for (multiplier, row) in multipliers.iter().zip(hypotheses) {
+        let term = product(*multiplier, row[column]);
         sum += term;
     }
     sum

@@ -1,7 +1,7 @@
 // Rows that are made of others.
 ghost use Rattle.std.specs.Prelude.{◌≡◌, ℕ, ◌<◌, ◌≤◌, [], length, pos, negsuc, ◌≤ℤ◌, slice_index_or};
 ghost use Rattle.dossier.specs.Rows as rows;
-ghost use Rattle.certificate.specs.Arrays.{row_of, RowWithin, Short, AllShort, Wide, Agrees, seven, short, long, wide};
+ghost use Rattle.certificate.specs.Arrays.{row_of, RowWithin, seven, short, long, wide};
 
 use crate::line::product;
 
@@ -16,8 +16,7 @@ pub(crate) fn zero_row() -> Row
 
 // The row -1.
 pub(crate) fn minus_one() -> Row
-    ensures value { row_of result ≡ rows.minus_one }
-    ensures small { Short result }
+    ensures { row_of result ≡ rows.minus_one }
 {
     [-1, 0, 0, 0, 0, 0, 0]
 }
@@ -29,8 +28,8 @@ pub(crate) fn difference(old: &Row, new: &Row, less: u8) -> Row
     ensures { row_of result ≡ rows.less (rows.difference (row_of old.now) (row_of new.now)) less }
 {
     let mut result = [0; 7];
-    for j in 0..7 {
-        result[j] = old[j] - new[j];
+    for (j, number) in result.iter_mut().enumerate() {
+        *number = old[j] - new[j];
     }
     result[0] -= less as i64;
     result
@@ -42,12 +41,11 @@ pub(crate) fn taken_column(variables: usize, row: &Row, updates: &[Row; 6], colu
     requires column { column < 7 }
     requires row { RowWithin short (row_of row.now) }
     requires updates { (v : ℕ) → v < variables → RowWithin wide (row_of (slice_index_or updates.now v [])) }
-    ensures value { result ≡ rows.taken variables (row_of row.now) (λ v. row_of (slice_index_or updates.now v [])) column }
-    ensures bounded { AllShort updates.now → (negsuc 34359738367 ≤ℤ result) × (result ≤ℤ pos 34359738368) }
+    ensures { result ≡ rows.taken variables (row_of row.now) (λ v. row_of (slice_index_or updates.now v [])) column }
 {
     let mut sum = if column == 0 { row[0] } else { 0 };
-    for v in 0..variables {
-        let term = product(row[v + 1], updates[v][column]);
+    for (v, update) in updates[..variables].iter().enumerate() {
+        let term = product(row[v + 1], update[column]);
         sum += term;
     }
     sum
@@ -58,13 +56,11 @@ pub(crate) fn taken(variables: usize, row: &Row, updates: &[Row; 6]) -> Row
     requires variables { variables ≤ 6 }
     requires row { RowWithin short (row_of row.now) }
     requires updates { (v : ℕ) → v < variables → RowWithin short (row_of (slice_index_or updates.now v [])) }
-    ensures value { row_of result ≡ seven (rows.taken variables (row_of row.now) (λ v. row_of (slice_index_or updates.now v []))) }
-    ensures agrees { Agrees result (rows.taken variables (row_of row.now) (λ v. row_of (slice_index_or updates.now v []))) }
-    ensures bounded { AllShort updates.now → Wide result }
+    ensures { row_of result ≡ seven (rows.taken variables (row_of row.now) (λ v. row_of (slice_index_or updates.now v []))) }
 {
     let mut result = [0; 7];
-    for j in 0..7 {
-        result[j] = taken_column(variables, row, updates, j);
+    for (j, number) in result.iter_mut().enumerate() {
+        *number = taken_column(variables, row, updates, j);
     }
     result
 }

@@ -2,8 +2,7 @@
 ghost use Rattle.std.specs.Prelude.{◌≡◌, ◌^◌, ◌<◌, ◌≤◌};
 ghost use Rattle.layout.specs.Heads.{counts_of};
 ghost use Rattle.dossier.specs.Dossier as parts;
-ghost use Rattle.dossier.specs.Ranges.{SmallRow};
-ghost use Rattle.certificate.specs.Arrays.{row_of, Short};
+ghost use Rattle.certificate.specs.Arrays.{row_of};
 
 use crate::rows::Row;
 use layout::head::Head;
@@ -44,8 +43,7 @@ impl<'a, S: Source> View<'a, S> {
     // The row whose constant stands at an index.
     pub(crate) fn row_at(&self, at: usize) -> Row
         requires { at < 2 ^ 32 }
-        ensures value { row_of result ≡ parts.row_at (S.cells self.now.source.now) at }
-        ensures small { SmallRow (S.cells self.now.source.now) at → Short result }
+        ensures { row_of result ≡ parts.row_at (S.cells self.now.source.now) at }
     {
         let mut row = [0; 7];
         for j in 0..self.head.variables as usize + 1 {

@@ -28,7 +28,7 @@ returns-then-product-column_sum c =
     let ms = c.args.multipliers.now in
     let hs = rows_of c.args.hypotheses.now in
     let r = row_of c.args.conclusion.now in
-    sym (ap (λ x. both x (constant_suffices c.args.divisor ms hs r)) (agree_fails c.args.divisor ms hs r c.args.variables c.loop-j.j (omega arith) (λ e. c.if-product-column_sum.true (ap (of_z w64) (scaled ∙ e ∙ sym c.column_sum.ensures.value)))))
+    sym (ap (λ x. both x (constant_suffices c.args.divisor ms hs r)) (agree_fails c.args.divisor ms hs r c.args.variables c.loop-j.j (omega arith) (λ e. c.if-product-column_sum.true (ap (of_z w64) (scaled ∙ e ∙ sym c.column_sum.ensures)))))
 
 pub loop-j-preserved : goal.loop-j-preserved
 loop-j-preserved c =
@@ -38,7 +38,7 @@ loop-j-preserved c =
     let b : SFits w64 c.column_sum.result = search rules in
     let scaled = simp to_z-of_z at c.product.ensures.value in
     let same : c.product.result ≡ c.column_sum.result = sym (to_z-of_z w64 c.product.result a) ∙ ap (to_z w64) c.if-product-column_sum.false ∙ to_z-of_z w64 c.column_sum.result b in
-    simp to_z-of_z (agree_more c.args.divisor c.args.multipliers.now (rows_of c.args.hypotheses.now) (row_of c.args.conclusion.now) c.loop-j.j (simp to_z-of_z at c.loop-j.invariant) (sym scaled ∙ same ∙ c.column_sum.ensures.value))
+    simp to_z-of_z (agree_more c.args.divisor c.args.multipliers.now (rows_of c.args.hypotheses.now) (row_of c.args.conclusion.now) c.loop-j.j (simp to_z-of_z at c.loop-j.invariant) (sym scaled ∙ same ∙ c.column_sum.ensures))
 
 pub returns : goal.returns
 returns c =
@@ -52,4 +52,4 @@ returns c =
     let scaled = simp to_z-of_z at c.product-2.ensures.value in
     let all : c.loop-j.j ≡ c.args.variables = omega arith in
     let agree = subst (λ n. coefficients_agree n c.args.divisor ms hs r ≡ true) all (simp to_z-of_z at c.loop-j.invariant) in
-    simp to_z-of_z (ap₂ le_z c.column_sum-2.ensures.value scaled ∙ sym (ap (λ x. both x (constant_suffices c.args.divisor ms hs r)) agree))
+    simp to_z-of_z (ap₂ le_z c.column_sum-2.ensures scaled ∙ sym (ap (λ x. both x (constant_suffices c.args.divisor ms hs r)) agree))

@@ -29,10 +29,3 @@ returns-clause-bounded c =
     let n : SFits w64 c.args.number = c.ranges.number in
     let f : SFits w64 (c.args.factor *ℤ c.args.number) = fits c in
     simp to_z-of_z (bounded c)
-
-pub returns-clause-within : goal.returns-clause-within
-returns-clause-within c =
-    let m : SFits w64 c.args.factor = c.ranges.factor in
-    let n : SFits w64 c.args.number = c.ranges.number in
-    let f : SFits w64 (c.args.factor *ℤ c.args.number) = fits c in
-    simp to_z-of_z (λ a b p q. product_within a b c.args.factor c.args.number p q)

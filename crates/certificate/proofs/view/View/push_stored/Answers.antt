@@ -15,4 +15,4 @@ pub loop-i-preserved : goal.loop-i-preserved
 loop-i-preserved g c =
     let cells = g.S.Source.cells c.args.self.now.source.now in
     pushed (held c.args.table.now) (held c.loop-i.table) c.loop-i.i (stored_row cells c.args.at) c.loop-i.invariant
-    _ _ (held_push _ _ _ c.push.ensures.items) (c.row_at.ensures.value ∙ ap (λ w. parts.row_at cells (c.args.at + c.loop-i.i * w)) c.row_width-width.ensures.value)
+    _ _ (held_push _ _ _ c.push.ensures.items) (c.row_at.ensures ∙ ap (λ w. parts.row_at cells (c.args.at + c.loop-i.i * w)) c.row_width-width.ensures.value)

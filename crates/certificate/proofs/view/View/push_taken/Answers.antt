@@ -23,7 +23,7 @@ taken-requires-clause-row g c =
     let cells = g.S.Source.cells c.args.self.now.source.now in
     let ranges = program_ranges cells (g.S.Source.formed c.args.self.now.source.now) in
     let inside : c.loop-i.i < point_rows (parts.head cells) = omega (arith, c.rows_of_point-i-end.ensures.value) in
-    let row = c.row_at-row.ensures.value ∙ ap₂ (λ a w. parts.row_at cells (a + c.loop-i.i * w)) c.point_at-at.ensures.value c.row_width-width.ensures.value in
+    let row = c.row_at-row.ensures ∙ ap₂ (λ a w. parts.row_at cells (a + c.loop-i.i * w)) c.point_at-at.ensures.value c.row_width-width.ensures.value in
     subst (RowWithin short) (sym row) (row_short cells _ (ranges.point_rows c.args.point c.loop-i.i c.requires.point inside))
 
 pub taken-requires-clause-updates : goal.taken-requires-clause-updates
@@ -47,10 +47,10 @@ loop-i-preserved g c =
     let same = c.args.self.now.agrees in
     let step : c.args.step < (parts.head cells).steps = omega (arith, ap (λ h. h.steps) same) in
     let place = parts.point_at (parts.head cells) c.args.point in
-    let row = c.row_at-row.ensures.value ∙ ap₂ (λ a w. parts.row_at cells (a + c.loop-i.i * w)) c.point_at-at.ensures.value c.row_width-width.ensures.value in
+    let row = c.row_at-row.ensures ∙ ap₂ (λ a w. parts.row_at cells (a + c.loop-i.i * w)) c.point_at-at.ensures.value c.row_width-width.ensures.value in
     pushed (held c.args.table.now) (held c.loop-i.table) c.loop-i.i (λ i. at_step cells c.args.step (stored_row cells place i)) c.loop-i.invariant
     _ _ (held_push _ _ _ c.push.ensures.items)
-    (taken_is cells ranges c.args.step step (stored_row cells place c.loop-i.i) c.row_at-row.result c.taken.result c.update_rows-updates.result c.args.self.now.head.variables row (ap (λ h. h.variables) same) c.update_rows-updates.ensures c.taken.ensures.value)
+    (taken_is cells ranges c.args.step step (stored_row cells place c.loop-i.i) c.row_at-row.result c.taken.result c.update_rows-updates.result c.args.self.now.head.variables row (ap (λ h. h.variables) same) c.update_rows-updates.ensures c.taken.ensures)
 
 pub returns : goal.returns
 returns g c =

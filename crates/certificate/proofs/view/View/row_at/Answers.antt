@@ -22,7 +22,4 @@ columns g c k =
     ∙ ap (λ t. cond t (view.cell cells (c.args.at + k)) (pos 0)) (ap (ltb k) last ∙ up_to k c.args.self.now.head.variables ∙ ap (λ h. leb k h.variables) c.args.self.now.agrees)
 
 pub returns : goal.returns
-returns g c = record {
-  value = λ i k. columns g c k i;
-  small = λ s k. subst (λ z. (negsuc 32767 ≤ℤ z) × (z ≤ℤ pos 32767)) (sym (columns g c k)) (row_small (g.S.Source.cells c.args.self.now.source.now) c.args.at s k);
-}
+returns g c i k = columns g c k i

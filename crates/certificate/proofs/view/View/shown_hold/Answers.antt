@@ -75,7 +75,7 @@ returns-then-taken_column-lt0 g c =
     let rows = listed cells c.push_start_point.new.table c.as_slice-numbers-items.result.now c.start_hypotheses-table.result.items c.as_slice-numbers-items.ensures.value c.push_start_point.ensures c.start_hypotheses-table.ensures in
     let inside : c.loop-row.row < length (admission.shown_rows cells) = omega (arith, counted _ _ rows) in
     let r = get_or (admission.shown_rows cells) c.loop-row.row zero_row in
-    let v = row_value cells c.shown_values-values.result c.args.self.now.head.variables _ r c.taken_column.result (ap (λ h. h.variables) c.args.self.now.agrees) c.shown_values-values.ensures.constant (row_at _ _ rows c.loop-row.row (omega arith)) c.taken_column.ensures.value in
+    let v = row_value cells c.shown_values-values.result c.args.self.now.head.variables _ r c.taken_column.result (ap (λ h. h.variables) c.args.self.now.agrees) c.shown_values-values.ensures.constant (row_at _ _ rows c.loop-row.row (omega arith)) c.taken_column.ensures in
     let fits : SFits w64 c.taken_column.result = search rules in
     sym (ap outcome (ap first_failure (rows_numbered cells 0 (admission.shown_rows cells)) ∙ fails (row_trial cells) zero_row (admission.shown_rows cells) c.loop-row.row inside (sign_no _ _ v c.if-taken_column-lt0.true fits) c.loop-row.invariant))
 
@@ -85,7 +85,7 @@ loop-row-preserved g c =
     let rows = listed cells c.push_start_point.new.table c.as_slice-numbers-items.result.now c.start_hypotheses-table.result.items c.as_slice-numbers-items.ensures.value c.push_start_point.ensures c.start_hypotheses-table.ensures in
     let inside : c.loop-row.row < length (admission.shown_rows cells) = omega (arith, counted _ _ rows) in
     let r = get_or (admission.shown_rows cells) c.loop-row.row zero_row in
-    let v = row_value cells c.shown_values-values.result c.args.self.now.head.variables _ r c.taken_column.result (ap (λ h. h.variables) c.args.self.now.agrees) c.shown_values-values.ensures.constant (row_at _ _ rows c.loop-row.row (omega arith)) c.taken_column.ensures.value in
+    let v = row_value cells c.shown_values-values.result c.args.self.now.head.variables _ r c.taken_column.result (ap (λ h. h.variables) c.args.self.now.agrees) c.shown_values-values.ensures.constant (row_at _ _ rows c.loop-row.row (omega arith)) c.taken_column.ensures in
     let fits : SFits w64 c.taken_column.result = search rules in
     more (row_trial cells) zero_row (admission.shown_rows cells) c.loop-row.row inside (sign_yes _ _ v c.if-taken_column-lt0.false fits) c.loop-row.invariant
 
