@@ -1,5 +1,5 @@
 -- A row that is filled column by column.
-use Rattle.std.proofs.Common.{◌≡◌, ℕ, ◌+◌, ◌<◌, ◌≤◌, cond, ltb, leb, List, length, get_or, set, ℤ, pos, sym, ap, ◌∙◌, ⊎_elim, arith, get_or-set_other, get_or-set_same, le-ltb, lt-ltb, le-leb}
+use Rattle.std.proofs.Common.{◌≡◌, ℕ, zero, suc, ◌+◌, ◌<◌, ◌≤◌, cond, ltb, leb, List, [], ◌∷◌, ◌++◌, length, get_or, take, drop, replicate, set, ℤ, pos, sym, refl, ap, ◌∙◌, ⊎_elim, arith, get_or-set_other, get_or-set_same, le-ltb, lt-ltb, le-leb}
 use borrow.Author.Tests.{lt-leb}
 use Rattle.certificate.specs.Arrays.{row_of, seven}
 use Rattle.std.proofs.str.Laws.{order}
@@ -31,3 +31,26 @@ filled_seven row n f e h i k = (h k ∙ ap (λ m. cond (ltb k m) (f k) (pos 0)) 
 -- n columns of a row that is 0 beyond them
 pub filled_all : (row : List ℤ) (j n : ℕ) (f : ℕ → ℤ) → j ≡ n → ((k : ℕ) → n ≤ k → f k ≡ pos 0) → Filled row j f → row_of row ≡ f
 filled_all row j n f e beyond h i k = (h k ∙ ap (λ m. cond (ltb k m) (f k) (pos 0)) e ∙ ⊎_elim (λ (l : k < n). ap (λ t. cond t (f k) (pos 0)) (lt-ltb k n l)) (λ (l : n ≤ k). ap (λ t. cond t (f k) (pos 0)) (le-ltb k n l) ∙ sym (beyond k l)) (order k n)) i
+
+-- rows of zeros, and their parts
+zeros : (m k : ℕ) → get_or (replicate m (pos 0)) k (pos 0) ≡ pos 0
+zeros zero k = refl
+zeros (suc m) zero = refl
+zeros (suc m) (suc k) = zeros m k
+
+pub zeros_front : (n m k : ℕ) → get_or (take n (replicate m (pos 0))) k (pos 0) ≡ pos 0
+zeros_front zero m k = refl
+zeros_front (suc n) zero k = refl
+zeros_front (suc n) (suc m) zero = refl
+zeros_front (suc n) (suc m) (suc k) = zeros_front n m k
+
+zeros_behind : (n m k : ℕ) → get_or (drop n (replicate m (pos 0))) k (pos 0) ≡ pos 0
+zeros_behind zero m k = zeros m k
+zeros_behind (suc n) zero k = refl
+zeros_behind (suc n) (suc m) k = zeros_behind n m k
+
+-- zeros behind a row change none of its columns
+pub padded : (row : List ℤ) (n m k : ℕ) → get_or (row ++ drop n (replicate m (pos 0))) k (pos 0) ≡ get_or row k (pos 0)
+padded [] n m k = zeros_behind n m k
+padded (x ∷ row) n m zero = refl
+padded (x ∷ row) n m (suc k) = padded row n m k

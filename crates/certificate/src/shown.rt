@@ -17,8 +17,9 @@ impl<'a, S: Source> View<'a, S> {
         ensures within { (v : ℕ) → v < (parts.head (S.cells self.now.source.now)).variables → Within 2147483648 (parts.shown (S.cells self.now.source.now) v) }
     {
         let mut values = [[0; 7]; 6];
-        for v in 0..self.head.variables as usize {
-            values[v] = [self.shown(v) as i64, 0, 0, 0, 0, 0, 0];
+        let variables = self.head.variables as usize;
+        for (v, value) in values[..variables].iter_mut().enumerate() {
+            *value = [self.shown(v) as i64, 0, 0, 0, 0, 0, 0];
         }
         values
     }

@@ -17,8 +17,9 @@ impl<'a, S: Source> View<'a, S> {
         ensures { (v : ℕ) → v < (parts.head (S.cells self.now.source.now)).variables → row_of (slice_index_or result v []) ≡ parts.update (S.cells self.now.source.now) step v }
     {
         let mut rows = [[0; 7]; 6];
-        for v in 0..self.head.variables as usize {
-            rows[v] = self.update(step, v);
+        let variables = self.head.variables as usize;
+        for (v, row) in rows[..variables].iter_mut().enumerate() {
+            *row = self.update(step, v);
         }
         rows
     }

@@ -46,8 +46,9 @@ impl<'a, S: Source> View<'a, S> {
         ensures { row_of result ≡ parts.row_at (S.cells self.now.source.now) at }
     {
         let mut row = [0; 7];
-        for j in 0..self.head.variables as usize + 1 {
-            row[j] = self.cell(at + j) as i64;
+        let width = self.head.variables as usize + 1;
+        for (j, number) in row[..width].iter_mut().enumerate() {
+            *number = self.cell(at + j) as i64;
         }
         row
     }

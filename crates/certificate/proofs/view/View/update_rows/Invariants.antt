@@ -4,4 +4,4 @@ use Rattle.certificate.specs.Arrays.{row_of}
 use Rattle.certificate.proofs.view.View.update_rows.Given as goal
 
 abbrev pub invariant-loop-v : goal.invariant-loop-v
-invariant-loop-v g l = (length l.rows ≡ 6) × ((v : ℕ) → v < l.v → row_of (get_or l.rows v []) ≡ parts.update (g.S.Source.cells l.self.source.now) l.step v)
+invariant-loop-v g l = (length l.row-items ≡ l.variables) × ((v : ℕ) → v < l.v → row_of (get_or l.row-items v []) ≡ parts.update (g.S.Source.cells l.self.source.now) l.step v)
