@@ -15,7 +15,8 @@ use Rattle.layout.specs.Checking.{cell_at, cell_supply}
 use Rattle.layout.specs.Reading.{ahead}
 use Rattle.layout.specs.Walk.{next, run}
 use Rattle.sheet.specs.Span.{all_between}
-use Rattle.sheet.specs.Store.{Store, put, puts}
+use Rattle.sheet.specs.declared.store.Store.{Store}
+use Rattle.sheet.specs.Store.{reaching, put, puts}
 
 -- a loop that keeps one flag for all bounds so far
 both_more : (seen low high left : Bool) → both seen (both (both low high) left) ≡ both (seen && (low && high)) left
@@ -83,12 +84,12 @@ module _ (d : Digits) (low high least most : ℤ) (low_fits : SFits w32 low) (hi
   hold_between (v ∷ vs) = both_swap (between least most v) _ (between low high v) _ ∙ ap₂ both (span_passes v) (hold_between vs)
 
 -- past the end there is no free cell
-pub puts_past : (at : ℕ) (cells vs : List ℤ) → length cells ≤ at → puts (at, cells) vs ≡ (at, cells)
-puts_past at cells [] h = refl
-puts_past at cells (v ∷ vs) h = ap (λ s. puts s vs) nowhere ∙ puts_past at cells vs h
+pub puts_past : (s : Store) (vs : List ℤ) → length s.cells.now ≤ s.next → puts s vs ≡ s
+puts_past s [] h = refl
+puts_past s (v ∷ vs) h = ap (λ t. puts t vs) nowhere ∙ puts_past s vs h
   where
-    nowhere : put (at, cells) v ≡ (at, cells)
-    nowhere = (λ i. (cond (le-ltb at (length cells) h i) (at + 1) at, set_past cells at v h i))
+    nowhere : put s v ≡ s
+    nowhere = ap₂ (reaching s.cells) (ap (λ t. cond t (s.next + 1) s.next) (le-ltb s.next (length s.cells.now) h)) (set_past s.cells.now s.next v h)
 
 -- a run takes the cells from a place on, if there are so many and every one passes
 run_cells : (cells : List ℤ) (d : Digits) (r : Range) (n : ℕ) (s : Store) (p : Place) (cs : List ℤ) → drop p.byte cells ≡ cs → run (cell_supply cells) put d r n s p ≡ cond (all_hold d r n (take n cs)) (Ok (puts s (take n cs), ahead p n)) (Err NotWellFormed)

@@ -5,11 +5,11 @@ ghost use Rattle.layout.proofs.CheckLaw.{cells_lawful};
 ghost use Rattle.layout.specs.Cells.{all_hold, between, writable};
 ghost use Rattle.layout.specs.Checking.{cell_supply};
 ghost use Rattle.sheet.specs.Span.{all_between};
-ghost use Rattle.sheet.specs.Store.{puts};
 
 use crate::checker::Checker;
+use crate::store::Store;
 use crate::tests_of::passes_in;
-use crate::walk::{Fields, store};
+use crate::walk::Fields;
 use layout::fault::OpenFault;
 use layout::field::{Digits, Range};
 
@@ -60,19 +60,6 @@ fn each_passes(part: &[i32], digits: Digits, range: Range) -> bool
     true
 }
 
-// Puts values into the next free cells, as far as there are any.
-fn store_all(cells: &mut [i32], at: usize, values: &[i32]) -> usize
-    ensures { (result, cells.new) ≡ puts (at, cells.old) values.now }
-{
-    let mut next = at;
-    if at < cells.len() {
-        for value in values {
-            next = store(cells, next, *value);
-        }
-    }
-    next
-}
-
 impl<'a> Fields for Checker<'a> {
     type Fault = OpenFault;
 
@@ -108,9 +95,8 @@ impl<'a> Fields for Checker<'a> {
         digits: Digits,
         range: Range,
         count: u16,
-        cells: &mut [i32],
-        at: usize,
-    ) -> Result<usize, OpenFault> {
+        store: &mut Store,
+    ) -> Result<(), OpenFault> {
         let from = self.place.byte;
         let size = count as usize;
         if size > self.list.len() - from {
@@ -121,6 +107,7 @@ impl<'a> Fields for Checker<'a> {
             return Err(OpenFault::NotWellFormed);
         }
         self.place.byte = from + size;
-        Ok(store_all(cells, at, part))
+        store.put_all(part);
+        Ok(())
     }
 }
