@@ -9,5 +9,5 @@ pub record IsLineOf (l : Line) (f : Frame) : Type 0 where
   pub kind : l.kind ≡ f.kind
   pub lead : l.lead.now ≡ leading f
   pub few : length l.lead.now ≤ 4
-  pub rest : l.rest ≡ f.rest
+  pub rest : l.rest.now ≡ f.rest
   pub count : l.count ≡ f.count

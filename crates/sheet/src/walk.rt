@@ -106,7 +106,7 @@ const NO_FIELD: Field = Field {
 pub(crate) struct Line<'a> {
     kind: u8,
     lead: &'a [Field],
-    rest: Field,
+    rest: &'a Field,
     count: u16,
 }
 
@@ -118,7 +118,7 @@ impl<'a> From<&'a Frame> for Line<'a> {
         Line {
             kind: frame.kind,
             lead: &frame.lead[0..leads],
-            rest: frame.rest,
+            rest: &frame.rest,
             count: frame.count,
         }
     }
@@ -193,7 +193,7 @@ pub(crate) trait Fields {
     ) -> Result<(), Self::Fault>
         requires { length line.now.lead.now ≤ length values.old }
         ensures same { supply self.new ≡ supply self.old }
-        ensures walked { Led result (take (length line.now.lead.now) values.new) store.new (place self.new) (walking.line (supply self.old) put line.now.kind line.now.lead.now line.now.rest line.now.count store.old (place self.old)) }
+        ensures walked { Led result (take (length line.now.lead.now) values.new) store.new (place self.new) (walking.line (supply self.old) put line.now.kind line.now.lead.now line.now.rest.now line.now.count store.old (place self.old)) }
     {
         self.kind(line.kind)?;
         self.leads(line.lead, values, store)?;
@@ -267,7 +267,7 @@ pub(crate) trait Fields {
         let line = Line {
             kind: 0x10,
             lead: &HEAD_FIELDS,
-            rest: NO_FIELD,
+            rest: &NO_FIELD,
             count: 0,
         };
         let mut values = [0; 13];
