@@ -5,6 +5,5 @@ pub mod Lent
 pub mod Listed
 pub mod Nibbles
 pub mod Passing
-pub mod Products
 pub mod Runs
 pub mod Walking

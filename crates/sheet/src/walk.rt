@@ -8,98 +8,13 @@ ghost use Rattle.layout.specs.declared.fault.Place;
 ghost use Rattle.sheet.specs.Line.{IsLineOf};
 ghost use Rattle.sheet.specs.Store.{put, Found, Valued, Stored, Led, Headed};
 
-use crate::due::groups;
+use crate::due::{UNUSED, groups, head_fields};
 use crate::store::Store;
 use crate::tests_of::range_of;
-use layout::field::{Digits, Field, Range, Test};
+use layout::field::{Digits, Field, Range};
 use layout::frame::{Frame, Group};
 use layout::head::Head;
 use layout::head_cells::HeadCells;
-
-// The fields of the head line: nine counts, start place and start state, form, count of rank numbers.
-const HEAD_FIELDS: [Field; 13] = [
-    Field {
-        digits: Digits::Two,
-        test: Test::Fixed {
-            range: Range::Between { low: 1, high: 6 },
-        },
-    },
-    Field {
-        digits: Digits::Two,
-        test: Test::Fixed {
-            range: Range::Between { low: 1, high: 8 },
-        },
-    },
-    Field {
-        digits: Digits::Two,
-        test: Test::Fixed {
-            range: Range::Between { low: 1, high: 16 },
-        },
-    },
-    Field {
-        digits: Digits::Two,
-        test: Test::Fixed {
-            range: Range::Between { low: 0, high: 8 },
-        },
-    },
-    Field {
-        digits: Digits::Two,
-        test: Test::Fixed {
-            range: Range::Between { low: 1, high: 4 },
-        },
-    },
-    Field {
-        digits: Digits::Two,
-        test: Test::Fixed {
-            range: Range::Between { low: 1, high: 12 },
-        },
-    },
-    Field {
-        digits: Digits::Two,
-        test: Test::Fixed {
-            range: Range::Between { low: 0, high: 4 },
-        },
-    },
-    Field {
-        digits: Digits::Two,
-        test: Test::Fixed {
-            range: Range::Between { low: 0, high: 4 },
-        },
-    },
-    Field {
-        digits: Digits::Two,
-        test: Test::Fixed {
-            range: Range::Between { low: 0, high: 4 },
-        },
-    },
-    Field {
-        digits: Digits::Two,
-        test: Test::BelowField { index: 1 },
-    },
-    Field {
-        digits: Digits::Two,
-        test: Test::BelowField { index: 4 },
-    },
-    Field {
-        digits: Digits::Two,
-        test: Test::Fixed {
-            range: Range::Between { low: 1, high: 2 },
-        },
-    },
-    Field {
-        digits: Digits::Two,
-        test: Test::Fixed {
-            range: Range::Between { low: 1, high: 2 },
-        },
-    },
-];
-
-const NO_FIELD: Field = Field {
-    digits: Digits::Two,
-    test: Test::Fixed {
-        range: Range::Between { low: 0, high: 0 },
-    },
-};
 
 // A line: its kind, its leading fields, then `count` fields like `rest`.
 #[derive(Clone, Copy)]
@@ -264,10 +179,11 @@ pub(crate) trait Fields {
         ensures walked { Headed result store.new (place self.new) (walking.line (supply self.old) put head_kind head_fields unused 0 store.old (place self.old)) }
         ensures lent { OnOk result (store.new.cells.ghost_name ≡ store.old.cells.ghost_name) }
     {
+        let lead = head_fields();
         let line = Line {
             kind: 0x10,
-            lead: &HEAD_FIELDS,
-            rest: &NO_FIELD,
+            lead: &lead,
+            rest: &UNUSED,
             count: 0,
         };
         let mut values = [0; 13];

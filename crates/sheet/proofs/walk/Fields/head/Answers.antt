@@ -10,9 +10,9 @@ use Rattle.sheet.proofs.walk.Fields.head.Goals as goal
 pub invariant_of-from : goal.invariant_of-from
 invariant_of-from g c =
     let w = c.args in
-    record { in_ranges = subst InRanges (counts_take c.line.new.values) (head_ranges (take 13 c.line.new.values) (line_lawful (g.Self.Fields.supply w.self.now) put (g.Self.Fields.lawful w.self.now) head_kind head_fields unused 0 w.store.now (g.Self.Fields.place w.self.now) c.in_ok-line.ensures.walked)) }
+    record { in_ranges = subst InRanges (counts_take c.line.new.values) (head_ranges (take 13 c.line.new.values) (line_lawful (g.Self.Fields.supply w.self.now) put (g.Self.Fields.lawful w.self.now) head_kind head_fields unused 0 w.store.now (g.Self.Fields.place w.self.now) (rw c.head_fields-lead.ensures at c.in_ok-line.ensures.walked))) }
 
 pub returns-clause-lent : goal.returns-clause-lent
 returns-clause-lent g c =
     let w = c.args in
-    line_keep (g.Self.Fields.supply w.self.now) put (λ s. s.cells.ghost_name) (λ s v. refl) head_kind head_fields unused 0 w.store.now (g.Self.Fields.place w.self.now) c.in_ok-line.ensures.walked
+    line_keep (g.Self.Fields.supply w.self.now) put (λ s. s.cells.ghost_name) (λ s v. refl) head_kind head_fields unused 0 w.store.now (g.Self.Fields.place w.self.now) (rw c.head_fields-lead.ensures at c.in_ok-line.ensures.walked)
