@@ -1,9 +1,9 @@
 pub mod Bytes
 pub mod Filled
 pub mod Formed
+pub mod Lent
 pub mod Listed
 pub mod Nibbles
 pub mod Passing
-pub mod Products
 pub mod Runs
 pub mod Walking

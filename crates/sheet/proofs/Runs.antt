@@ -1,7 +1,9 @@
 -- Several cells at once: their test, where they go, and a run of them.
-use Rattle.std.proofs.Common.{◌≡◌, ℕ, zero, suc, ◌+◌, ◌-◌, ◌<◌, ◌≤◌, Bool, true, false, cond, ◌&&◌, List, [], ◌∷◌, length, get_or, take, drop, ℤ, pos, Ok, Err, Result, sym, refl, ap, ◌∙◌, ap₂, add-zero, arith, length-drop, w32, SFits}
+use Rattle.std.proofs.Common.{◌≡◌, ℕ, zero, suc, ◌+◌, ◌-◌, ◌<◌, ◌≤◌, Bool, true, false, cond, ◌&&◌, List, [], ◌∷◌, length, get_or, take, drop, ℤ, pos, Ok, Err, Result, sym, refl, ap, ◌∙◌, ap₂, add-zero, arith, length-drop, int_le, w32, SFits}
 use lib.Signed.{le_z, mag}
-use Rattle.std.proofs.lemmas.List.{at_drop_more, at_drop_all, drop-drop, length-take-le, set_past}
+use Rattle.std.specs.Int.{int_max, int_min}
+use Rattle.std.specs.List.{fold, list_all}
+use Rattle.std.proofs.lemmas.List.{drop-drop, length-take-le, set_past}
 use Rattle.std.proofs.lemmas.Int.{ints}
 use Rattle.std.proofs.lemmas.Bool.{le-ltb, false≢true}
 use Rattle.layout.specs.declared.fault.Place.{Place}
@@ -14,18 +16,8 @@ use Rattle.layout.specs.Cells.{both, between, writable, passes, all_hold}
 use Rattle.layout.specs.Checking.{cell_at, cell_supply}
 use Rattle.layout.specs.Reading.{ahead}
 use Rattle.layout.specs.Walk.{next, run}
-use Rattle.sheet.specs.Span.{all_between}
-use Rattle.sheet.specs.Store.{Store, put, puts}
-
--- a loop that keeps one flag for all bounds so far
-both_more : (seen low high left : Bool) → both seen (both (both low high) left) ≡ both (seen && (low && high)) left
-both_more true true high left = refl
-both_more true false high left = refl
-both_more false low high left = refl
-
-both_true : (a : Bool) → both a true ≡ a
-both_true true = refl
-both_true false = refl
+use Rattle.sheet.specs.declared.store.Store.{Store}
+use Rattle.sheet.specs.Store.{reaching, put, puts}
 
 both_false : (a : Bool) → both a false ≡ false
 both_false true = refl
@@ -35,33 +27,42 @@ both_parts : (a b : Bool) → both a b ≡ true → (a ≡ true) × (b ≡ true)
 both_parts true b h = (refl, h)
 both_parts false b h = absurd (false≢true h)
 
+-- a fold that keeps one flag
+pub fold_between : (low high : ℤ) (seen : Bool) (vs : List ℤ) → fold (λ t v. (t && int_le low v) && int_le v high) seen vs ≡ (seen && list_all (between low high) vs)
+fold_between low high true [] = refl
+fold_between low high false [] = refl
+fold_between low high seen (v ∷ vs) = fold_between low high ((seen && int_le low v) && int_le v high) vs ∙ go seen (int_le low v) (int_le v high)
+  where
+    go : (seen a b : Bool) → (((seen && a) && b) && list_all (between low high) vs) ≡ (seen && (both a b && list_all (between low high) vs))
+    go true true b = refl
+    go true false b = refl
+    go false a b = refl
+
+max_le : (a b v : ℤ) → int_le (int_max a b) v ≡ both (int_le b v) (int_le a v)
+max_le a b v = grind (arith, ints)
+
+le_min : (a b v : ℤ) → int_le v (int_min a b) ≡ both (int_le v b) (int_le v a)
+le_min a b v = grind (arith, ints)
+
 both_swap : (a b c d : Bool) → both (both a b) (both c d) ≡ both (both a c) (both b d)
 both_swap true true c d = refl
 both_swap true false true d = refl
 both_swap true false false d = refl
 both_swap false b c d = refl
 
-module _ (low high : ℤ) (part : List ℤ) (i : ℕ) (seen : Bool) where
-  pub between_more : (v : ℤ) → v ≡ get_or part i (pos 0) → i < length part → both seen (all_between low high (drop i part)) ≡ both (seen && (le_z low v && le_z v high)) (all_between low high (drop (i + 1) part))
-  between_more v e h =
-      at_drop_more (λ l. both seen (all_between low high l)) part i (pos 0) h
-      ∙ ap (λ x. both seen (both (between low high x) (all_between low high (drop (i + 1) part)))) (sym e)
-      ∙ both_more seen (le_z low v) (le_z v high) _
-
-  pub between_all : length part ≤ i → both seen (all_between low high (drop i part)) ≡ seen
-  between_all h = at_drop_all (λ l. both seen (all_between low high l)) part i h ∙ both_true seen
-
 module _ (d : Digits) (r : Range) where
-  pub hold_more : (part : List ℤ) (i : ℕ) {t : Bool} → i < length part → passes d r (get_or part i (pos 0)) ≡ t → all_hold d r (length (drop i part)) (drop i part) ≡ both t (all_hold d r (length (drop (i + 1) part)) (drop (i + 1) part))
-  hold_more part i h e = at_drop_more (λ l. all_hold d r (length l) l) part i (pos 0) h ∙ ap (λ t. both t (all_hold d r (length (drop (i + 1) part)) (drop (i + 1) part))) e
-
-  pub hold_all : (part : List ℤ) (i : ℕ) → length part ≤ i → all_hold d r (length (drop i part)) (drop i part) ≡ true
-  hold_all part i h = at_drop_all (λ l. all_hold d r (length l) l) part i h
-
   hold_short : (n : ℕ) (cs : List ℤ) → length cs < n → all_hold d r n (take n cs) ≡ false
   hold_short zero cs h = absurd (omega arith)
   hold_short (suc n) [] h = refl
   hold_short (suc n) (v ∷ vs) h = ap (both (passes d r v)) (hold_short n vs (omega arith)) ∙ both_false (passes d r v)
+
+  hold_all : (vs : List ℤ) → list_all (passes d r) vs ≡ all_hold d r (length vs) vs
+  hold_all [] = refl
+  hold_all (v ∷ vs) = ap (λ t. passes d r v && t) (hold_all vs) ∙ and_both (passes d r v) _
+    where
+      and_both : (a b : Bool) → (a && b) ≡ both a b
+      and_both true b = refl
+      and_both false b = refl
 
 -- the digits' span says what they can write of 32 bits, and what lies between two cells fits these
 module _ (d : Digits) (low high least most : ℤ) (low_fits : SFits w32 low) (high_fits : SFits w32 high) (same : (v : ℤ) → SFits w32 v → between least most v ≡ writable d v) where
@@ -71,24 +72,23 @@ module _ (d : Digits) (low high least most : ℤ) (low_fits : SFits w32 low) (hi
       inside : (a b c : ℤ) → mag a < 2147483648 → mag b < 2147483648 → le_z a c ≡ true → le_z c b ≡ true → mag c < 2147483648
       inside a b c ha hb l h = grind (arith, ints)
 
-  span_passes : (v : ℤ) → both (between least most v) (between low high v) ≡ passes d (Between low high) v
-  span_passes v = go (between low high v) (λ h. same v (fits_between v h))
+  span_passes : (v : ℤ) → between (int_max low least) (int_min high most) v ≡ passes d (Between low high) v
+  span_passes v = ap₂ both (max_le low least v) (le_min high most v) ∙ both_swap (le_z least v) (le_z low v) (le_z v most) (le_z v high) ∙ go (between low high v) (λ h. same v (fits_between v h))
     where
       go : (t : Bool) → (t ≡ true → between least most v ≡ writable d v) → both (between least most v) t ≡ both (writable d v) t
       go true e = ap (λ x. both x true) (e refl)
       go false e = both_false (between least most v) ∙ sym (both_false (writable d v))
 
-  pub hold_between : (vs : List ℤ) → both (all_between least most vs) (all_between low high vs) ≡ all_hold d (Between low high) (length vs) vs
-  hold_between [] = refl
-  hold_between (v ∷ vs) = both_swap (between least most v) _ (between low high v) _ ∙ ap₂ both (span_passes v) (hold_between vs)
+  pub span_all : (vs : List ℤ) → list_all (between (int_max low least) (int_min high most)) vs ≡ list_all (passes d (Between low high)) vs
+  span_all vs = ap (λ p. list_all p vs) (λ i v. span_passes v i)
 
 -- past the end there is no free cell
-pub puts_past : (at : ℕ) (cells vs : List ℤ) → length cells ≤ at → puts (at, cells) vs ≡ (at, cells)
-puts_past at cells [] h = refl
-puts_past at cells (v ∷ vs) h = ap (λ s. puts s vs) nowhere ∙ puts_past at cells vs h
+pub puts_past : (s : Store) (vs : List ℤ) → length s.cells.now ≤ s.next → puts s vs ≡ s
+puts_past s [] h = refl
+puts_past s (v ∷ vs) h = ap (λ t. puts t vs) nowhere ∙ puts_past s vs h
   where
-    nowhere : put (at, cells) v ≡ (at, cells)
-    nowhere = (λ i. (cond (le-ltb at (length cells) h i) (at + 1) at, set_past cells at v h i))
+    nowhere : put s v ≡ s
+    nowhere = ap₂ (reaching s.cells) (ap (λ t. cond t (s.next + 1) s.next) (le-ltb s.next (length s.cells.now) h)) (set_past s.cells.now s.next v h)
 
 -- a run takes the cells from a place on, if there are so many and every one passes
 run_cells : (cells : List ℤ) (d : Digits) (r : Range) (n : ℕ) (s : Store) (p : Place) (cs : List ℤ) → drop p.byte cells ≡ cs → run (cell_supply cells) put d r n s p ≡ cond (all_hold d r n (take n cs)) (Ok (puts s (take n cs), ahead p n)) (Err NotWellFormed)
@@ -118,7 +118,7 @@ module _ (cells : List ℤ) (d : Digits) (r : Range) (n : ℕ) (s : Store) (p : 
     front : part ≡ take n (drop p.byte cells)
     front = is ∙ ap (λ m. take m (drop p.byte cells)) (omega arith)
 
-    pub run_part : {t : Bool} → t ≡ all_hold d r (length part) part → run (cell_supply cells) put d r n s p ≡ cond t (Ok (puts s part, ahead p n)) (Err NotWellFormed)
+    pub run_part : {t : Bool} → t ≡ list_all (passes d r) part → run (cell_supply cells) put d r n s p ≡ cond t (Ok (puts s part, ahead p n)) (Err NotWellFormed)
     run_part {t} h =
-        run_tested (h ∙ ap (λ l. all_hold d r (length l) l) front ∙ ap (λ m. all_hold d r m (take n (drop p.byte cells))) (length-take-le n (drop p.byte cells) (simp length-drop (omega arith))))
+        run_tested (h ∙ hold_all d r part ∙ ap (λ l. all_hold d r (length l) l) front ∙ ap (λ m. all_hold d r m (take n (drop p.byte cells))) (length-take-le n (drop p.byte cells) (simp length-drop (omega arith))))
         ∙ ap (λ l. cond t (Ok (puts s l, ahead p n)) (Err NotWellFormed)) (sym front)

@@ -1,12 +1,14 @@
 -- One step of a walk, and its end.
 use Rattle.std.proofs.Common.{◌≡◌, ℕ, suc, ◌+◌, ◌<◌, List, [], ◌∷◌, ◌++◌, length, get_or, drop, ℤ, IsErrAnd, Ok, Err, Result, sym, refl, ap, ◌∙◌}
 use Rattle.std.proofs.lemmas.List.{drop_more}
+use Rattle.std.specs.List.{flat_map}
 use Rattle.layout.specs.declared.fault.Place.{Place}
 use Rattle.layout.specs.declared.field.Digits.{Digits}
 use Rattle.layout.specs.declared.field.Range.{Range}
 use Rattle.layout.specs.declared.field.Field.{Field}
 use Rattle.layout.specs.declared.frame.Frame.{Frame}
-use Rattle.layout.specs.Layout.{range_of, leading}
+use Rattle.layout.specs.declared.frame.Group.{Group}
+use Rattle.layout.specs.Layout.{Counts, range_of, leading, groups, group_lines, lines_due}
 use Rattle.layout.specs.Walk.{Supply, next, leads, run, line, frame, frames}
 use Rattle.sheet.specs.Store.{Answers}
 
@@ -81,3 +83,11 @@ module _ {E A : Type 0} (u : Supply E) (push : A → ℤ → A) where
 
     pub lines_stop : {e : E} → frames w push gs a p ≡ Err e → frames u push fs a p ≡ Err e
     lines_stop h = on h
+
+-- the lines of groups, one after the other
+abbrev pub all_lines : List Group → List Frame
+all_lines gs = flat_map (λ (x : Group). group_lines x x.times) gs
+
+pub due_lines : (h : Counts) (gs : List Group) → gs ≡ groups h → lines_due h ≡ all_lines gs
+unfolding lines_due
+due_lines h gs e = ap all_lines (sym e)

@@ -1,4 +1,4 @@
 pub mod Digit
+pub mod Line
 pub mod Outcomes
-pub mod Span
 pub mod Store

@@ -1,17 +1,19 @@
 -- What a step of a walk answers and leaves: its result, the place behind it, and the cells that it wrote.
-use Rattle.std.specs.Prelude.{◌≡◌, ℕ, ◌+◌, cond, List, [], ◌∷◌, length, take, ℤ, Ok, Err, Result, nat_lt, slice_set}
+use Rattle.std.specs.Prelude.{◌≡◌, ℕ, ◌+◌, cond, List, [], ◌∷◌, length, ℤ, Ok, Err, Result, nat_lt, slice_set}
+use Rattle.std.specs.Borrow.{MutBor}
 use Rattle.layout.specs.declared.fault.Place.{Place}
 use Rattle.layout.specs.declared.head.Head.{Head}
 use Rattle.layout.specs.Heads.{counts_of}
 use Rattle.layout.specs.Layout.{counts}
+use Rattle.sheet.specs.declared.store.Store.{Store}
 
--- the next free cell, and the cells
-abbrev pub Store : Type 0
-Store = ℕ × List ℤ
+-- the cells behind `r`, with `list` in them, of which `n` is the next free one
+abbrev pub reaching : MutBor (List ℤ) → ℕ → List ℤ → Store
+reaching r n list = record { cells = record r { now = list }; next = n }
 
 -- a value goes into the next free cell, if there is one
 abbrev pub put : Store → ℤ → Store
-put s v = (cond (nat_lt s.0 (length s.1)) (s.0 + 1) s.0, slice_set s.1 s.0 v)
+put s v = reaching s.cells (cond (nat_lt s.next (length s.cells.now)) (s.next + 1) s.next) (slice_set s.cells.now s.next v)
 
 -- values go in one after the other
 abbrev pub puts : Store → List ℤ → Store
@@ -31,14 +33,14 @@ module _ {E : Type 0} where
   abbrev pub Valued : Result ℤ E → Place → Result (ℤ × Place) E → Type 0
   Valued r p x = Answers (λ v. (v, p)) r x
 
-  abbrev pub Stored : Result ℕ E → List ℤ → Place → Result (Store × Place) E → Type 0
-  Stored r cells p x = Answers (λ n. ((n, cells), p)) r x
+  abbrev pub Stored : Result (Unit {0}) E → Store → Place → Result (Store × Place) E → Type 0
+  Stored r s p x = Answers (λ u. (s, p)) r x
 
-  -- the line's first `n` values stand at the front of `values`
-  abbrev pub Led : ℕ → Result ℕ E → List ℤ → List ℤ → Place → Result (List ℤ × Store × Place) E → Type 0
-  Led n r values cells p x = Answers (λ m. (take n values, (m, cells), p)) r x
+  -- `vs` are the line's leading values
+  abbrev pub Led : Result (Unit {0}) E → List ℤ → Store → Place → Result (List ℤ × Store × Place) E → Type 0
+  Led r vs s p x = Answers (λ u. (vs, s, p)) r x
 
 -- a head was taken from the line's leading values
-abbrev pub Headed : {E : Type 0} → Result (Head × ℕ) E → List ℤ → Place → Result (List ℤ × Store × Place) E → Type 0
-Headed (Ok a) cells p x = (vs : List ℤ) × (x ≡ Ok (vs, (a.1, cells), p)) × (counts_of a.0 ≡ counts vs)
-Headed (Err e) cells p x = x ≡ Err e
+abbrev pub Headed : {E : Type 0} → Result Head E → Store → Place → Result (List ℤ × Store × Place) E → Type 0
+Headed (Ok h) s p x = (vs : List ℤ) × (x ≡ Ok (vs, s, p)) × (counts_of h ≡ counts vs)
+Headed (Err e) s p x = x ≡ Err e

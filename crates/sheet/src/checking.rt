@@ -1,27 +1,23 @@
 // The fields of a list of cells. Kinds and line ends are not written there.
-ghost use Rattle.std.specs.Prelude.{◌≡◌, length, ℤ, FitsSigned};
+ghost use Rattle.std.specs.Prelude.{◌≡◌, ◌&&◌, true, ℤ, FitsSigned, int_le};
 ghost use Rattle.std.specs.Int.{w32};
+ghost use Rattle.std.specs.List.{fold, list_all};
 ghost use Rattle.layout.proofs.CheckLaw.{cells_lawful};
-ghost use Rattle.layout.specs.Cells.{all_hold, between, writable};
+ghost use Rattle.layout.specs.Cells.{between, passes, writable};
 ghost use Rattle.layout.specs.Checking.{cell_supply};
-ghost use Rattle.sheet.specs.Span.{all_between};
-ghost use Rattle.sheet.specs.Store.{puts};
 
 use crate::checker::Checker;
+use crate::store::Store;
 use crate::tests_of::passes_in;
-use crate::walk::{Fields, store};
+use crate::walk::Fields;
 use layout::fault::OpenFault;
 use layout::field::{Digits, Range};
 
 // Whether every value lies between two bounds. No value is judged by itself, which is what makes it fast.
 fn all_between(part: &[i32], low: i32, high: i32) -> bool
-    ensures { result ≡ all_between low high part.now }
+    ensures { result ≡ fold (λ all v. (all && int_le low v) && int_le v high) true part.now }
 {
-    let mut all = true;
-    for value in part {
-        all &= (low <= *value) & (*value <= high);
-    }
-    all
+    part.iter().fold(true, |all, value| all & (low <= *value) & (*value <= high))
 }
 
 // The lowest and the highest cell that the digits can write.
@@ -38,39 +34,17 @@ fn span(digits: Digits) -> (i32, i32)
 
 // Whether every value may stand in a field of these digits and this range.
 fn all_pass(part: &[i32], digits: Digits, range: Range) -> bool
-    ensures { result ≡ all_hold digits range (length part.now) part.now }
+    ensures { result ≡ list_all (passes digits range) part.now }
 {
     match range {
         Range::Between { low, high } => {
             let (least, most) = span(digits);
-            all_between(part, least, most) && all_between(part, low, high)
+            all_between(part, low.max(least), high.min(most))
         }
-        Range::Apart { .. } => each_passes(part, digits, range),
+        Range::Apart { .. } => part
+            .iter()
+            .all(|value| passes_in(digits, range, *value as i64)),
     }
-}
-
-fn each_passes(part: &[i32], digits: Digits, range: Range) -> bool
-    ensures { result ≡ all_hold digits range (length part.now) part.now }
-{
-    for value in part {
-        if !passes_in(digits, range, *value as i64) {
-            return false;
-        }
-    }
-    true
-}
-
-// Puts values into the next free cells, as far as there are any.
-fn store_all(cells: &mut [i32], at: usize, values: &[i32]) -> usize
-    ensures { (result, cells.new) ≡ puts (at, cells.old) values.now }
-{
-    let mut next = at;
-    if at < cells.len() {
-        for value in values {
-            next = store(cells, next, *value);
-        }
-    }
-    next
 }
 
 impl<'a> Fields for Checker<'a> {
@@ -108,9 +82,8 @@ impl<'a> Fields for Checker<'a> {
         digits: Digits,
         range: Range,
         count: u16,
-        cells: &mut [i32],
-        at: usize,
-    ) -> Result<usize, OpenFault> {
+        store: &mut Store,
+    ) -> Result<(), OpenFault> {
         let from = self.place.byte;
         let size = count as usize;
         if size > self.list.len() - from {
@@ -121,6 +94,7 @@ impl<'a> Fields for Checker<'a> {
             return Err(OpenFault::NotWellFormed);
         }
         self.place.byte = from + size;
-        Ok(store_all(cells, at, part))
+        store.put_all(part);
+        Ok(())
     }
 }

@@ -18,6 +18,12 @@ const ONLY_ZERO: Range = Range::Between { low: 0, high: 0 };
 
 const HIGHEST: i32 = 1_048_575;
 
+// What stands in the place of a field that a line does not have.
+pub(crate) const UNUSED: Field = Field {
+    digits: Digits::Two,
+    test: Test::Fixed { range: ONLY_ZERO },
+};
+
 fn field(digits: Digits, low: i32, high: i32) -> Field
     ensures { result ≡ record { digits = digits; test = Test.Fixed (Range.Between low high) } }
 {
@@ -45,12 +51,43 @@ fn one_of(n: u16) -> Field
     field(Digits::Two, 0, n as i32 - 1)
 }
 
+// A two-digit number below the line's field at `index`.
+fn below(index: usize) -> Field
+    ensures { result ≡ record { digits = Digits.Two; test = Test.BelowField index } }
+{
+    Field {
+        digits: Digits::Two,
+        test: Test::BelowField { index },
+    }
+}
+
+// The fields of the head line: nine counts, start place and start state, form, count of rank numbers.
+pub(crate) fn head_fields() -> [Field; 13]
+    ensures { result ≡ due.head_fields }
+{
+    [
+        short(1, 6),
+        short(1, 8),
+        short(1, 16),
+        short(0, 8),
+        short(1, 4),
+        short(1, 12),
+        short(0, 4),
+        short(0, 4),
+        short(0, 4),
+        below(1),
+        below(4),
+        short(1, 2),
+        short(1, 2),
+    ]
+}
+
 fn uniform(kind: u8, rest: Field, count: u16) -> Frame
     ensures { result ≡ due.uniform kind rest count }
 {
     Frame {
         kind,
-        lead: [short(0, 0); 4],
+        lead: [UNUSED; 4],
         leads: 0,
         rest,
         count,
@@ -60,10 +97,9 @@ fn uniform(kind: u8, rest: Field, count: u16) -> Frame
 fn led(kind: u8, first: Field, rest: Field, count: u16) -> Frame
     ensures { result ≡ due.led kind first rest count }
 {
-    let unused = short(0, 0);
     Frame {
         kind,
-        lead: [first, unused, unused, unused],
+        lead: [first, UNUSED, UNUSED, UNUSED],
         leads: 1,
         rest,
         count,
@@ -90,10 +126,9 @@ fn step(head: &Head) -> Frame
     ensures { result ≡ due.step (counts_of head.now) }
 {
     let place = one_of(head.places);
-    let unused = short(0, 0);
     Frame {
         kind: 0x30,
-        lead: [place, place, unused, unused],
+        lead: [place, place, UNUSED, UNUSED],
         leads: 2,
         rest: number(),
         count: head.variables * (head.variables + 1),
@@ -108,7 +143,6 @@ fn proposition(head: &Head) -> Frame
         low: 0,
         high: head.places as i32 - 1,
     };
-    let unused = short(0, 0);
     Frame {
         kind: 0x40,
         lead: [
@@ -120,8 +154,8 @@ fn proposition(head: &Head) -> Frame
                     other: place,
                 },
             },
-            unused,
-            unused,
+            UNUSED,
+            UNUSED,
         ],
         leads: 2,
         rest: Field {
@@ -138,7 +172,7 @@ fn proposition(head: &Head) -> Frame
 fn state() -> Frame
     ensures { result ≡ due.state }
 {
-    led(0x50, short(0, 1), short(0, 0), 0)
+    led(0x50, short(0, 1), UNUSED, 0)
 }
 
 // The highest mask over `n` propositions.
@@ -167,7 +201,7 @@ fn edge(head: &Head) -> Frame
             },
         ],
         leads: 4,
-        rest: short(0, 0),
+        rest: UNUSED,
         count: 0,
     }
 }
@@ -187,7 +221,7 @@ fn line(kind: u8, hypotheses: u16) -> Frame
 fn mode(head: &Head, kind: u8) -> Frame
     ensures { result ≡ due.mode (counts_of head.now) kind }
 {
-    led(kind, short(0, head.rank_numbers), short(0, 0), 0)
+    led(kind, short(0, head.rank_numbers), UNUSED, 0)
 }
 
 // Mode, step and edge.
@@ -200,10 +234,10 @@ fn choice(head: &Head) -> Frame
             short(0, head.rank_numbers),
             one_of(head.steps),
             one_of(head.edges),
-            short(0, 0),
+            UNUSED,
         ],
         leads: 3,
-        rest: short(0, 0),
+        rest: UNUSED,
         count: 0,
     }
 }
@@ -307,7 +341,8 @@ pub(crate) fn groups(head: &Head) -> [Group; 8]
 
 // How many fields a frame has.
 fn width(frame: &Frame) -> usize
-    ensures { (result ≡ fields.width frame.now) × (result < 2 ^ 17) }
+    ensures value { result ≡ fields.width frame.now }
+    ensures bound { result < 2 ^ 17 }
 {
     let leads = frame.lead.len().min(frame.leads as usize);
     leads + frame.count as usize
@@ -315,14 +350,15 @@ fn width(frame: &Frame) -> usize
 
 // How many cells a group's lines have.
 fn group_cells(group: &Group) -> usize
-    ensures { (result ≡ fields.group_cells group.now) × (result < 2 ^ 50) }
+    ensures value { result ≡ fields.group_cells group.now }
+    ensures bound { result < 2 ^ 50 }
 {
     let once = group.firsts as usize * width(&group.first)
         + group.seconds as usize * width(&group.second);
     group.times as usize * once
 }
 
-// How many cells a head calls for.
+// How many cells a head calls for. By hand: of a chain's `sum` it is known that it fits, and not that 13 more do.
 pub(crate) fn cells_due(head: &Head) -> usize
     ensures { result ≡ fields.cells_due (counts_of head.now) }
 {

@@ -8,5 +8,6 @@ pub mod opening;
 pub mod read;
 mod reader;
 mod reading;
+mod store;
 mod tests_of;
 mod walk;

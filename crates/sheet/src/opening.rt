@@ -4,7 +4,8 @@ ghost use Rattle.layout.specs.Cells.{well_formed};
 ghost use Rattle.sheet.specs.Outcomes.{verdict, Opened};
 
 use crate::checker::Checker;
-use crate::walk::{body, head};
+use crate::store::Store;
+use crate::walk::Fields;
 use layout::fault::{OpenFault, Place};
 use sources::sheet::Sheet;
 
@@ -17,9 +18,9 @@ fn check(list: &[i32]) -> Result<(), OpenFault>
         place: Place { line: 1, byte: 0 },
     };
     // the values are kept nowhere
-    let mut nowhere = [];
-    let (head, next) = head(&mut checker, &mut nowhere)?;
-    body(&mut checker, &head, &mut nowhere, next)?;
+    let mut nowhere = Store::over(&mut []);
+    let head = checker.head(&mut nowhere)?;
+    checker.body(&head, &mut nowhere)?;
     if checker.place.byte == list.len() {
         Ok(())
     } else {

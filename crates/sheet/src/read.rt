@@ -1,5 +1,5 @@
 // Reading a sheet: its text into cells.
-ghost use Rattle.std.specs.Prelude.{◌≡◌, length};
+ghost use Rattle.std.specs.Prelude.{◌≡◌, length, OnOk};
 ghost use Rattle.layout.specs.Cases.{WorkedCases};
 ghost use Rattle.layout.specs.Laws.{ReadExactly, OneToOne, AllCounted};
 ghost use Rattle.layout.specs.Reading.{read_with, read_text};
@@ -8,15 +8,17 @@ ghost use Rattle.sheet.specs.Store.{put, Answers};
 
 use crate::due::cells_due;
 use crate::reader::Reader;
-use crate::walk::{body, head};
+use crate::store::Store;
+use crate::walk::Fields;
 use layout::fault::ReadFault;
 
-// One pass through the text. Its values go into the cells lent, as far as these reach; `room` is how many the caller has.
-fn go_through(text: &[u8], room: usize, cells: &mut [i32]) -> Result<usize, ReadFault>
-    ensures { Answers (λ n. (n, cells.new)) result (read_with put text.now room (0, cells.old)) }
+// One pass through the text, whose values go into the store; `room` is how many cells the caller has.
+fn go_through(text: &[u8], room: usize, store: &mut Store) -> Result<(), ReadFault>
+    ensures walked { Answers (λ u. store.new) result (read_with put text.now room store.old) }
+    ensures lent { OnOk result (store.new.cells.ghost_name ≡ store.old.cells.ghost_name) }
 {
     let mut reader = Reader::new(text);
-    let (head, next) = head(&mut reader, cells)?;
+    let head = reader.head(store)?;
     let needed = cells_due(&head);
     if room < needed {
         return Err(ReadFault::TooFewCells {
@@ -24,11 +26,11 @@ fn go_through(text: &[u8], room: usize, cells: &mut [i32]) -> Result<usize, Read
             given: room,
         });
     }
-    let last = body(&mut reader, &head, cells, next)?;
+    reader.body(&head, store)?;
     if reader.place.byte < text.len() {
         return Err(ReadFault::Extra(reader.place));
     }
-    Ok(last)
+    Ok(())
 }
 
 // Reads a sheet's text into the front of `cells` and answers how many cells it has. The first pass only judges, so that a
@@ -41,6 +43,8 @@ pub fn read(text: &[u8], cells: &mut [i32]) -> Result<usize, ReadFault>
     ensures worked { WorkedCases }
 {
     let room = cells.len();
-    go_through(text, room, &mut [])?;
-    go_through(text, room, cells)
+    go_through(text, room, &mut Store::over(&mut []))?;
+    let mut store = Store::over(cells);
+    go_through(text, room, &mut store)?;
+    Ok(store.next)
 }

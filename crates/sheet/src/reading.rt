@@ -63,7 +63,8 @@ fn number_of(digits: Digits, raw: u32) -> i64
 
 impl<'a> Reader<'a> {
     pub(crate) fn new(text: &'a [u8]) -> Self
-        ensures { (result.text ≡ text.entry) × (result.place ≡ bytes.start) }
+        ensures over { result.text ≡ text.entry }
+        ensures at_start { result.place ≡ bytes.start }
     {
         Reader {
             text,

@@ -1,34 +1,23 @@
-use Rattle.std.proofs.Common.{◌≡◌, length, sym, ap, ◌∙◌, ap₂, w32, SFits, rules}
+use Rattle.std.proofs.Common.{◌≡◌, true, sym, ap, ◌∙◌, ap₂, w32, SFits, rules}
+use Rattle.std.specs.Int.{int_max, int_min}
+use Rattle.std.specs.List.{list_all}
 use Rattle.std.proofs.lemmas.Int.{to_z-of_z}
-use Rattle.layout.specs.Cells.{all_hold, both}
-use Rattle.sheet.specs.Span.{all_between}
-use Rattle.sheet.proofs.Runs.{hold_between}
+use Rattle.layout.specs.Cells.{between, passes}
+use Rattle.sheet.proofs.Runs.{fold_between, span_all}
 use Rattle.sheet.proofs.checking.all_pass.Goals as goal
-use Rattle.sheet.proofs.checking.all_pass.Goals.{After-all_between}
 
--- the two spans, as `all_between` was asked
-two_spans : (c : After-all_between) → both c.all_between.result (all_between c.in-Between.low c.in-Between.high c.args.part.now) ≡ all_hold c.args.digits c.args.range (length c.args.part.now) c.args.part.now
-two_spans c =
-    let part = c.args.part.now in
+pub returns-in-Between : goal.returns-in-Between
+returns-in-Between c =
+    let low : SFits w32 c.in-Between.low = search rules in
+    let high : SFits w32 c.in-Between.high = search rules in
     let least : SFits w32 c.span-least.result.0 = search rules in
     let most : SFits w32 c.span-least.result.1 = search rules in
-    let low : SFits w32 c.in-Between.low = search rules in
-    let high : SFits w32 c.in-Between.high = search rules in
-    ap (λ t. both t (all_between c.in-Between.low c.in-Between.high part)) (c.all_between.ensures ∙ ap₂ (λ a b. all_between a b part) (to_z-of_z w32 _ least) (to_z-of_z w32 _ most))
-    ∙ hold_between c.args.digits c.in-Between.low c.in-Between.high c.span-least.result.0 c.span-least.result.1 low high c.span-least.ensures part
-    ∙ ap (λ r. all_hold c.args.digits r (length part) part) (sym c.in-Between.is)
-
-pub returns-then-all_between : goal.returns-then-all_between
-returns-then-all_between c =
-    let low : SFits w32 c.in-Between.low = search rules in
-    let high : SFits w32 c.in-Between.high = search rules in
-    c.all_between-then-all_between.ensures
-    ∙ ap₂ (λ a b. all_between a b c.args.part.now) (to_z-of_z w32 _ low) (to_z-of_z w32 _ high)
-    ∙ ap (λ t. both t (all_between c.in-Between.low c.in-Between.high c.args.part.now)) (sym c.if-all_between.true)
-    ∙ two_spans (goal.at.returns-then-all_between c).After-all_between
-
-pub returns-else-all_between : goal.returns-else-all_between
-returns-else-all_between c =
-    c.if-all_between.false
-    ∙ ap (λ t. both t (all_between c.in-Between.low c.in-Between.high c.args.part.now)) (sym c.if-all_between.false)
-    ∙ two_spans (goal.at.returns-else-all_between c).After-all_between
+    let lowest : SFits w32 c.max.result = search rules in
+    let highest : SFits w32 c.min.result = search rules in
+    let from : c.max.result ≡ int_max c.in-Between.low c.span-least.result.0 = simp to_z-of_z at c.max.ensures.value in
+    let to : c.min.result ≡ int_min c.in-Between.high c.span-least.result.1 = simp to_z-of_z at c.min.ensures.value in
+    c.all_between.ensures
+    ∙ fold_between _ _ true c.args.part.now
+    ∙ ap₂ (λ a b. list_all (between a b) c.args.part.now) (to_z-of_z w32 _ lowest ∙ from) (to_z-of_z w32 _ highest ∙ to)
+    ∙ span_all c.args.digits c.in-Between.low c.in-Between.high c.span-least.result.0 c.span-least.result.1 low high c.span-least.ensures c.args.part.now
+    ∙ ap (λ r. list_all (passes c.args.digits r) c.args.part.now) (sym c.in-Between.is)

@@ -4,4 +4,7 @@ use Rattle.sheet.proofs.due.cells_due.Given as goal
 
 -- what is left makes up the whole
 abbrev pub invariant-loop-group : goal.invariant-loop-group
-invariant-loop-group l = (l.sum + all_groups_cells (drop l.group-index l.group-items) ≡ 13 + all_groups_cells l.group-items) × (l.sum ≤ 13 + l.group-index * 2 ^ 50)
+invariant-loop-group l = record {
+  left : l.sum + all_groups_cells (drop l.group-index l.group-items) ≡ 13 + all_groups_cells l.group-items;
+  bound : l.sum ≤ 13 + l.group-index * 2 ^ 50;
+}

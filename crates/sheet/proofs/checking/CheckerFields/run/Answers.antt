@@ -6,18 +6,18 @@ use Rattle.sheet.proofs.checking.CheckerFields.run.Goals as goal
 pub returns-then-size-self : goal.returns-then-size-self
 returns-then-size-self c =
     let s = c.args.self.now in
-    record { same = refl; walked = run_short s.list.now c.args.digits c.args.range c.args.count (c.args.at, c.args.cells.now) s.place (omega arith) }
+    record { same = refl; walked = run_short s.list.now c.args.digits c.args.range c.args.count c.args.store.now s.place (omega arith) }
 
 pub returns-then-not-all_pass : goal.returns-then-not-all_pass
 returns-then-not-all_pass c =
     let s = c.args.self.now in
-    record { same = refl; walked = run_part s.list.now c.args.digits c.args.range c.args.count (c.args.at, c.args.cells.now) s.place _ refl (omega arith) c.if-not-all_pass.ensures }
+    record { same = refl; walked = run_part s.list.now c.args.digits c.args.range c.args.count c.args.store.now s.place _ refl (omega arith) c.if-not-all_pass.ensures }
 
 pub returns : goal.returns
 returns c =
     let s = c.args.self.now in
     record {
       same = refl;
-      walked = run_part s.list.now c.args.digits c.args.range c.args.count (c.args.at, c.args.cells.now) s.place _ refl (omega arith) c.if-not-all_pass.ensures
-          ∙ ap (λ x. Ok (x, ahead s.place c.args.count)) (sym c.store_all.ensures);
+      walked = run_part s.list.now c.args.digits c.args.range c.args.count c.args.store.now s.place _ refl (omega arith) c.if-not-all_pass.ensures
+          ∙ ap (λ x. Ok (x, ahead s.place c.args.count)) (sym c.put_all.ensures);
     }

@@ -1,0 +1,5 @@
+use Rattle.std.proofs.Common.{refl}
+use Rattle.sheet.proofs.due.head_fields.Goals as goal
+
+pub returns : goal.returns
+returns c = cc
