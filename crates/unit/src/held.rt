@@ -5,6 +5,7 @@ ghost use Rattle.sheet.specs.Outcomes.{verdict};
 
 use layout::fault::OpenFault;
 use sheet::opening::open;
+use sources::cells::value_at;
 use sources::sheet::{Sheet, run_down};
 use sources::source::Source;
 
@@ -42,10 +43,6 @@ impl Source for Held {
     }
 
     fn cell(&self, index: usize) -> i32 {
-        if index < self.cells.len() {
-            self.cells[index]
-        } else {
-            0
-        }
+        value_at(&self.cells, index)
     }
 }

@@ -1,9 +1,9 @@
 // How far the console has come with a dossier.
-use crate::call::Form;
 use crate::present::Dossier;
 use certificate::admit::{admit_every_run, admit_some_run};
 use certificate::admitted::{Admitted, EveryRun, Refused, SomeRun};
 use certificate::kind::{OneNumber, RankKind, TwoNumbers};
+use layout::form::Form;
 
 // An admitted dossier of either form.
 #[derive(Drop)]
@@ -14,7 +14,6 @@ pub enum Either<K> {
 
 #[derive(Drop)]
 pub enum Stage {
-    Empty,
     Read(Dossier),
     OneNumber(Either<OneNumber>),
     TwoNumbers(Either<TwoNumbers>),
@@ -39,22 +38,20 @@ impl<K: Drop> Either<K> {
 
 impl Stage {
     // The dossier, for reading.
-    pub(crate) fn dossier(&self) -> Option<&Dossier> {
+    pub(crate) fn dossier(&self) -> &Dossier {
         match self {
-            Stage::Empty => None,
-            Stage::Read(dossier) => Some(dossier),
-            Stage::OneNumber(admitted) => Some(admitted.dossier()),
-            Stage::TwoNumbers(admitted) => Some(admitted.dossier()),
+            Stage::Read(dossier) => dossier,
+            Stage::OneNumber(admitted) => admitted.dossier(),
+            Stage::TwoNumbers(admitted) => admitted.dossier(),
         }
     }
 
     // The dossier, no longer admitted.
-    pub(crate) fn release(self) -> Option<Dossier> {
+    pub(crate) fn release(self) -> Dossier {
         match self {
-            Stage::Empty => None,
-            Stage::Read(dossier) => Some(dossier),
-            Stage::OneNumber(admitted) => Some(admitted.release()),
-            Stage::TwoNumbers(admitted) => Some(admitted.release()),
+            Stage::Read(dossier) => dossier,
+            Stage::OneNumber(admitted) => admitted.release(),
+            Stage::TwoNumbers(admitted) => admitted.release(),
         }
     }
 }
