@@ -43,10 +43,14 @@ fn judged<S: Source + Drop, K: Drop, F: Drop>(
 ) -> Result<usize, Failure> {
     match answer {
         Ok((lines, _)) => Ok(lines),
-        Err(refused) if Mark::of(&refused.source) == mark => {
-            Err(Failure::Refused(Refusal::from(refused.fault)))
+        Err(refused) => {
+            let Refused { fault, source, .. } = refused;
+            if Mark::of(&source) == mark {
+                Err(Failure::Refused(Refusal::from(fault)))
+            } else {
+                Err(Failure::DossierAltered)
+            }
         }
-        Err(_) => Err(Failure::DossierAltered),
     }
 }
 
@@ -75,7 +79,9 @@ fn judge_text(heap: Global, text: &[u8], call: Call) -> anyhow::Result<Result<us
     let count = read(text, &mut cells).ok().context("the text is no sheet")?;
     cells.truncate(count);
     let mut sheet = run_down();
-    open(&cells, &mut sheet).ok().context("the sheet cannot be opened")?;
+    open(&cells, &mut sheet)
+        .ok()
+        .context("the sheet cannot be opened")?;
     Ok(judge(sheet, call))
 }
 

@@ -62,6 +62,16 @@ fn compare<F: Fn(&str) -> anyhow::Result<bool>>(
 }
 
 fn main(rt: HostRuntime) -> anyhow::Result<()> {
-    compare(&rt, "reading.txt", "cases", |line| reading_agrees(&rt, line))?;
-    compare(&rt, "admission.txt", "admissions", |line| admission_agrees(&rt, line))
+    compare(
+        &rt,
+        "reading.txt",
+        "cases",
+        |line| reading_agrees(&rt, line),
+    )?;
+    compare(
+        &rt,
+        "admission.txt",
+        "admissions",
+        |line| admission_agrees(&rt, line),
+    )
 }

@@ -7,7 +7,9 @@ use std::rt::Files;
 
 // The fields of a line, at most `count`, with bars between them.
 pub(crate) fn fields(heap: Global, line: &str, count: usize) -> Result<Vec<&str>, AllocError> {
-    line.splitn(count, '|').map(|field| field.trim()).collect(heap)
+    line.splitn(count, '|')
+        .map(|field| field.trim())
+        .collect(heap)
 }
 
 // The text of a literal, or of the file of a base sheet, `@NAME`.
