@@ -80,19 +80,15 @@ fn checksum(cells: &[i32]) -> i64 {
     )
 }
 
-fn run(rt: &HostRuntime) -> anyhow::Result<()> {
+fn main(rt: HostRuntime) -> anyhow::Result<()> {
     let heap = rt.alloc();
     let mut text = longest::longest(heap)?.into_bytes();
     let mut cells: Vec<i32> = vec![in heap; 0; CELLS]?;
     let bytes = text.len();
     println!(rt; "text of {bytes} bytes, {CELLS} cells")?;
-    time_reads(rt, &mut text, &mut cells)?;
+    time_reads(&rt, &mut text, &mut cells)?;
     let sum = checksum(&cells);
     println!(rt; "checksum {sum}")?;
-    time_openings(rt, &mut cells)?;
-    admission::time_both(rt)
-}
-
-fn main(rt: HostRuntime) -> anyhow::Result<()> {
-    run(&rt)
+    time_openings(&rt, &mut cells)?;
+    admission::time_both(&rt)
 }

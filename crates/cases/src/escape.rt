@@ -12,6 +12,7 @@ fn escaped(part: &[u8]) -> anyhow::Result<(u8, &[u8])> {
     }
 }
 
+// Capitals only, as sheets have them; char::to_digit takes small letters too.
 fn nibble(digit: u8) -> anyhow::Result<u8> {
     match digit {
         b'0'..=b'9' => Ok(digit - b'0'),
@@ -23,9 +24,7 @@ fn nibble(digit: u8) -> anyhow::Result<u8> {
 pub(crate) fn unescape(heap: Global, text: &str) -> anyhow::Result<Vec<u8>> {
     let mut parts = text.split('\\');
     let mut bytes = Vec::new(heap);
-    if let Some(first) = parts.next() {
-        bytes.extend_from_slice(first.as_bytes())?;
-    }
+    bytes.extend_from_slice(parts.next().unwrap_or("").as_bytes())?;
     for part in parts {
         let (byte, rest) = escaped(part.as_bytes())?;
         bytes.push(byte)?;

@@ -13,6 +13,7 @@ mod text;
 use admission_case::admission_agrees;
 use reading_case::reading_agrees;
 use std::fs;
+use std::rt::Files;
 
 #[derive(Clone, Copy, Debug, PartialEq, Eq)]
 struct Tally {
@@ -48,7 +49,7 @@ fn judge<F: Fn(&str) -> anyhow::Result<bool>>(lines: &str, agrees: F) -> anyhow:
 }
 
 fn compare<F: Fn(&str) -> anyhow::Result<bool>>(
-    rt: &HostRuntime,
+    rt: &(impl Files + Print + AllocGlobal),
     file: &str,
     name: &str,
     agrees: F,

@@ -24,7 +24,6 @@ pub enum Failure<'a> {
     Memory(#[from(alloc)] AllocError),
 }
 
-// By hand, since the derive that writes a Display makes an error of its type.
 impl fmt::Display for Answer {
     fn fmt<W: fmt::Write>(&self, f: &mut fmt::Formatter<W>) -> fmt::Result {
         match self {

@@ -17,6 +17,7 @@ use sheet::read::read;
 use sources::source::Source;
 use std::alloc::Global;
 use std::fs;
+use std::rt::Files;
 
 #[derive(Drop)]
 pub struct Console {
@@ -30,7 +31,7 @@ impl Console {
 
     pub(crate) fn obey<'a>(
         &mut self,
-        rt: &HostRuntime,
+        rt: &(impl Files + AllocGlobal),
         line: &'a str,
     ) -> Result<Answer, Failure<'a>> {
         match Command::try_from(line)? {
@@ -44,7 +45,7 @@ impl Console {
     // The stage is set last, so that a sheet that is refused leaves what was there.
     fn read<'a>(
         &mut self,
-        rt: &HostRuntime,
+        rt: &(impl Files + AllocGlobal),
         file: &'a str,
         room: usize,
     ) -> Result<Answer, Failure<'a>> {

@@ -18,6 +18,7 @@ mod unmet;
 
 use console::Console;
 use std::io::{BufRead, BufReader, Read};
+use std::rt::Files;
 use std::{env, fs, io};
 
 fn main(rt: HostRuntime) -> io::Result<()> {
@@ -32,7 +33,7 @@ fn main(rt: HostRuntime) -> io::Result<()> {
 }
 
 // A line that is no text is obeyed as text with marks in place of its faults, so that it gets its answer too.
-fn obey<R: Read + Drop>(rt: &HostRuntime, script: R) -> io::Result<()> {
+fn obey<R: Read + Drop>(rt: &(impl Files + Print + AllocGlobal), script: R) -> io::Result<()> {
     let heap = rt.alloc();
     let mut console = Console::new();
     for line in BufReader::new(heap, script)?.split(heap, b'\n') {
@@ -45,7 +46,11 @@ fn obey<R: Read + Drop>(rt: &HostRuntime, script: R) -> io::Result<()> {
     Ok(())
 }
 
-fn respond(rt: &HostRuntime, console: &mut Console, line: &str) -> io::Result<()> {
+fn respond(
+    rt: &(impl Files + Print + AllocGlobal),
+    console: &mut Console,
+    line: &str,
+) -> io::Result<()> {
     if line.is_empty() || line.starts_with('#') {
         return Ok(());
     }

@@ -98,9 +98,8 @@ impl<'a> Text<'a> {
 
     // The field that begins at a place.
     fn field(self, place: Place) -> Digits<'a> {
-        let offset = offset_in_line(self.0, place.byte);
-        let line = rest(self.0, place.byte.saturating_sub(offset));
-        Digits(start(rest(self.0, place.byte), width(start(line, 2), offset)))
+        let line = line_before(self.0, place.byte);
+        Digits(start(rest(self.0, place.byte), width(line)))
     }
 }
 
@@ -141,20 +140,20 @@ fn start(text: &[u8], count: usize) -> &[u8] {
     text.get(..count).unwrap_or(text)
 }
 
-// How many bytes of its line stand before a byte.
-fn offset_in_line(text: &[u8], byte: usize) -> usize {
+// What stands before a byte in its line.
+fn line_before(text: &[u8], byte: usize) -> &[u8] {
     start(text, byte)
         .rsplit(|found| *found == b'\n')
         .next()
-        .map_or(0, |line| line.len())
+        .unwrap_or(&[])
 }
 
-// How many digits the field has that stands so many bytes into a line of this kind: the widths of the layout, told again
-// only to quote a field that was already judged.
-fn width(kind: &[u8], offset: usize) -> usize {
-    match kind {
+// How many digits the field has before which these bytes of its line stand: the widths of the layout, told again only to quote
+// a field that was already judged.
+fn width(line: &[u8]) -> usize {
+    match start(line, 2) {
         b"20" | b"31" | b"60" | b"61" => 4,
-        b"30" | b"40" if offset >= 6 => 4,
+        b"30" | b"40" if line.len() >= 6 => 4,
         b"70" | b"72" | b"80" | b"82" => 8,
         _ => 2,
     }
