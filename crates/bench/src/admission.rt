@@ -1,4 +1,5 @@
 // Times the admission of the largest dossiers of both forms: every count at its highest, dense rows and multipliers.
+use crate::CELLS;
 use crate::timing::Timing;
 use anyhow::Context;
 use certificate::admit::{admit_every_run, admit_some_run};
@@ -11,8 +12,6 @@ use sources::sheet::run_down;
 use sources::source::Source;
 use std::fs;
 use std::rt::{Clock, Files};
-
-const CELLS: usize = 32_067;
 
 const ADMISSIONS: u32 = 500;
 

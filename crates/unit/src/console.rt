@@ -8,7 +8,7 @@ use crate::misread::Misread;
 use crate::mistake::Mistake;
 use crate::present::Dossier;
 use crate::refused::{Reason, Refused};
-use crate::stage::{Either, Stage, admit};
+use crate::stage::{AnyForm, Stage, admit};
 use crate::unmet::Unmet;
 use certificate::admitted::Refused as NotAdmitted;
 use certificate::kind::{OneNumber, RankKind, TwoNumbers};
@@ -76,7 +76,7 @@ impl Console {
     }
 
     // A dossier that is admitted already is judged anew.
-    fn admit_at<'a, K: RankKind + Drop, F: FnOnce(Either<K>) -> Stage>(
+    fn admit_at<'a, K: RankKind + Drop, F: FnOnce(AnyForm<K>) -> Stage>(
         &mut self,
         kind: K,
         call: Call,

@@ -5,9 +5,9 @@ use certificate::admitted::{Admitted, EveryRun, Refused, SomeRun};
 use certificate::kind::{OneNumber, RankKind, TwoNumbers};
 use layout::form::Form;
 
-// An admitted dossier of either form.
+// An admitted dossier of either form. An enum, since the form is part of an admitted dossier's type.
 #[derive(Drop)]
-pub enum Either<K> {
+pub enum AnyForm<K> {
     EveryRun(Admitted<Dossier, K, EveryRun>),
     SomeRun(Admitted<Dossier, K, SomeRun>),
 }
@@ -15,22 +15,22 @@ pub enum Either<K> {
 #[derive(Drop)]
 pub enum Stage {
     Read(Dossier),
-    OneNumber(Either<OneNumber>),
-    TwoNumbers(Either<TwoNumbers>),
+    OneNumber(AnyForm<OneNumber>),
+    TwoNumbers(AnyForm<TwoNumbers>),
 }
 
-impl<K: Drop> Either<K> {
+impl<K: Drop> AnyForm<K> {
     fn dossier(&self) -> &Dossier {
         match self {
-            Either::EveryRun(admitted) => admitted.source(),
-            Either::SomeRun(admitted) => admitted.source(),
+            AnyForm::EveryRun(admitted) => admitted.source(),
+            AnyForm::SomeRun(admitted) => admitted.source(),
         }
     }
 
     fn release(self) -> Dossier {
         let (dossier, _) = match self {
-            Either::EveryRun(admitted) => admitted.release(),
-            Either::SomeRun(admitted) => admitted.release(),
+            AnyForm::EveryRun(admitted) => admitted.release(),
+            AnyForm::SomeRun(admitted) => admitted.release(),
         };
         dossier
     }
@@ -61,15 +61,15 @@ pub(crate) fn admit<K: RankKind>(
     dossier: Dossier,
     form: Form,
     kind: K,
-) -> Result<(usize, Either<K>), Refused<Dossier, K>> {
+) -> Result<(usize, AnyForm<K>), Refused<Dossier, K>> {
     match form {
         Form::EveryRun => {
             let (lines, admitted) = admit_every_run(dossier, kind)?;
-            Ok((lines, Either::EveryRun(admitted)))
+            Ok((lines, AnyForm::EveryRun(admitted)))
         }
         Form::SomeRun => {
             let (lines, admitted) = admit_some_run(dossier, kind)?;
-            Ok((lines, Either::SomeRun(admitted)))
+            Ok((lines, AnyForm::SomeRun(admitted)))
         }
     }
 }

@@ -83,14 +83,7 @@ impl Unmet {
                 claim: rows.shown(row),
             },
             AdmitFault::MoveLine { number, line } => {
-                let written = move_of(source, number)?;
-                Unmet::MoveLine {
-                    number,
-                    step: written.step,
-                    edge: written.edge,
-                    line,
-                    claim: rows.of_move(written, line),
-                }
+                move_line(&rows, move_of(source, number)?, number, line)
             }
             AdmitFault::StepElsewhere { point } => step_elsewhere(
                 choice_of(source, point)?,
@@ -106,6 +99,16 @@ impl Unmet {
                 claim: rows.of_choice(choice_of(source, point)?, line),
             },
         })
+    }
+}
+
+fn move_line(rows: &Rows, written: Move, number: usize, line: usize) -> Unmet {
+    Unmet::MoveLine {
+        number,
+        step: written.step,
+        edge: written.edge,
+        line,
+        claim: rows.of_move(written, line),
     }
 }
 
