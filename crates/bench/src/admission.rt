@@ -21,7 +21,7 @@ fn handed_back<S, F: Drop>(admission: (usize, Admitted<S, TwoNumbers, F>)) -> (S
     (source, lines)
 }
 
-// Admits a dossier and hands it back with the number of proof lines.
+// Admits a dossier and hands it back with the number of proof lines. The form is a value here, and a type of what is admitted.
 fn admitted<S: Source>(source: S, form: Form) -> Result<(S, usize), Refused<S, TwoNumbers>> {
     match form {
         Form::EveryRun => admit_every_run(source, TwoNumbers).map(handed_back),

@@ -54,6 +54,7 @@ fn judged<S: Source + Drop, K: Drop, F: Drop>(
     }
 }
 
+// The form is a value here, and a type of the answer.
 fn admit<S: Source + Drop, K: RankKind + Drop>(
     source: S,
     form: Form,
@@ -66,6 +67,7 @@ fn admit<S: Source + Drop, K: RankKind + Drop>(
     }
 }
 
+// The kind is a value here, and a type of the call.
 fn judge<S: Source + Drop>(source: S, call: Call) -> Result<usize, Failure> {
     match call.ranks {
         Ranks::OneNumber => admit(source, call.form, OneNumber),

@@ -1,4 +1,4 @@
-// What admission is called for with: a form and a count of rank numbers.
+// What admission is called for with: a form and a count of rank numbers. The console's call answers a wrong word by a sentence of its own.
 use anyhow::bail;
 use layout::form::Form;
 use std::str::FromStr;
@@ -27,6 +27,7 @@ impl FromStr for Ranks {
     }
 }
 
+// No FromStr: that impl would have to stand in the crate of Form.
 pub(crate) fn form_named(word: &str) -> anyhow::Result<Form> {
     match word {
         "every-run" => Ok(Form::EveryRun),

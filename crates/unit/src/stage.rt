@@ -5,7 +5,7 @@ use certificate::admitted::{Admitted, EveryRun, Refused, SomeRun};
 use certificate::kind::{OneNumber, RankKind, TwoNumbers};
 use layout::form::Form;
 
-// An admitted dossier of either form. An enum, since the form is part of an admitted dossier's type.
+// An admitted dossier of either form. Each arm below stands for another type, so that no one pattern takes two of them.
 #[derive(Drop)]
 pub enum AnyForm<K> {
     EveryRun(Admitted<Dossier, K, EveryRun>),
@@ -56,7 +56,7 @@ impl Stage {
     }
 }
 
-// Admits a dossier in a form; answers the number of proof lines judged.
+// Admits a dossier in a form; answers the number of proof lines judged. The form is a value here and a type there.
 pub(crate) fn admit<K: RankKind>(
     dossier: Dossier,
     form: Form,
