@@ -1,59 +1,68 @@
 // The longest sheet: every count at its highest, form 1, legal fields that vary. Its proof lines need not hold.
 use crate::numbers::Numbers;
-use crate::writer::Writer;
 use std::alloc::{AllocError, Global};
+use std::fmt::Write;
 
 // 6 variables, 8 places, 16 steps, 8 propositions, 4 states, 12 edges, 4 start rows, guards and region rows, 2 rank numbers.
-const HEAD: [u8; 14] = [0x10, 6, 8, 16, 8, 4, 12, 4, 4, 4, 0, 0, 1, 2];
+const HEAD: [u32; 14] = [0x10, 6, 8, 16, 8, 4, 12, 4, 4, 4, 0, 0, 1, 2];
 
 const BOUND: u32 = 1_048_576;
 
 #[derive(Drop)]
 struct Maker {
-    writer: Writer,
+    text: String,
     numbers: Numbers,
 }
 
 impl Maker {
+    // A kind or a field of so many digits.
+    fn digits(&mut self, count: usize, value: u32) -> Result<(), AllocError> {
+        write!(self.text, "{value:0count$X}")
+    }
+
+    fn end(&mut self) -> Result<(), AllocError> {
+        self.text.push('\n')
+    }
+
     fn head(&mut self) -> Result<(), AllocError> {
-        for byte in HEAD {
-            self.writer.two(byte)?;
+        for number in HEAD {
+            self.digits(2, number)?;
         }
-        self.writer.end()
+        self.end()
     }
 
     // A short field below `count`.
-    fn short(&mut self, count: u32) -> Result<u8, AllocError> {
-        let value = (self.numbers.below(count) & 0xff) as u8;
-        self.writer.two(value)?;
+    fn short(&mut self, count: u32) -> Result<u32, AllocError> {
+        let value = self.numbers.below(count);
+        self.digits(2, value)?;
         Ok(value)
     }
 
     // Numbers of a row.
     fn numbers(&mut self, count: u8) -> Result<(), AllocError> {
         for _ in 0..count {
-            let value = (self.numbers.next() & 0xffff) as u16;
-            self.writer.four(value)?;
+            let value = self.numbers.next() & 0xffff;
+            self.digits(4, value)?;
         }
         Ok(())
     }
 
-    fn rows(&mut self, kind: u8, count: u8) -> Result<(), AllocError> {
+    fn rows(&mut self, kind: u32, count: u8) -> Result<(), AllocError> {
         for _ in 0..count {
-            self.writer.two(kind)?;
+            self.digits(2, kind)?;
             self.numbers(7)?;
-            self.writer.end()?;
+            self.end()?;
         }
         Ok(())
     }
 
     fn steps(&mut self) -> Result<(), AllocError> {
         for _ in 0..16 {
-            self.writer.two(0x30)?;
+            self.digits(2, 0x30)?;
             self.short(8)?;
             self.short(8)?;
             self.numbers(42)?;
-            self.writer.end()?;
+            self.end()?;
             self.rows(0x31, 4)?;
         }
         Ok(())
@@ -62,43 +71,43 @@ impl Maker {
     // Rows and places in turn.
     fn propositions(&mut self) -> Result<(), AllocError> {
         for _ in 0..4 {
-            self.writer.two(0x40)?;
-            self.writer.four(0)?;
+            self.digits(2, 0x40)?;
+            self.digits(4, 0)?;
             self.numbers(7)?;
-            self.writer.end()?;
+            self.end()?;
             self.place_proposition()?;
         }
         Ok(())
     }
 
     fn place_proposition(&mut self) -> Result<(), AllocError> {
-        self.writer.two(0x40)?;
-        self.writer.two(1)?;
+        self.digits(2, 0x40)?;
+        self.digits(2, 1)?;
         self.short(8)?;
         for _ in 0..7 {
-            self.writer.four(0)?;
+            self.digits(4, 0)?;
         }
-        self.writer.end()
+        self.end()
     }
 
     fn states(&mut self) -> Result<(), AllocError> {
         for _ in 0..4 {
-            self.writer.two(0x50)?;
+            self.digits(2, 0x50)?;
             self.short(2)?;
-            self.writer.end()?;
+            self.end()?;
         }
         Ok(())
     }
 
     fn edges(&mut self) -> Result<(), AllocError> {
         for _ in 0..12 {
-            self.writer.two(0x51)?;
+            self.digits(2, 0x51)?;
             self.short(4)?;
             self.short(4)?;
             let must = self.short(256)?;
-            let apart = (self.numbers.next() & 0xff) as u8 & !must;
-            self.writer.two(apart)?;
-            self.writer.end()?;
+            let apart = self.numbers.next() & 0xff & !must;
+            self.digits(2, apart)?;
+            self.end()?;
         }
         Ok(())
     }
@@ -112,18 +121,18 @@ impl Maker {
     }
 
     // A proof line: a divisor and `count` multipliers.
-    fn proof_line(&mut self, kind: u8, count: u8) -> Result<(), AllocError> {
-        self.writer.two(kind)?;
+    fn proof_line(&mut self, kind: u32, count: u8) -> Result<(), AllocError> {
+        self.digits(2, kind)?;
         let divisor = self.numbers.below(BOUND).max(1);
-        self.writer.eight(divisor)?;
+        self.digits(8, divisor)?;
         for _ in 0..count {
             let multiplier = self.numbers.below(BOUND);
-            self.writer.eight(multiplier)?;
+            self.digits(8, multiplier)?;
         }
-        self.writer.end()
+        self.end()
     }
 
-    fn proof_lines(&mut self, kind: u8, lines: u8, count: u8) -> Result<(), AllocError> {
+    fn proof_lines(&mut self, kind: u32, lines: u8, count: u8) -> Result<(), AllocError> {
         for _ in 0..lines {
             self.proof_line(kind, count)?;
         }
@@ -132,18 +141,18 @@ impl Maker {
 
     fn moves(&mut self) -> Result<(), AllocError> {
         for _ in 0..192 {
-            self.writer.two(0x71)?;
+            self.digits(2, 0x71)?;
             self.short(3)?;
-            self.writer.end()?;
+            self.end()?;
             self.proof_lines(0x72, 8, 18)?;
         }
         Ok(())
     }
 }
 
-pub(crate) fn longest(heap: Global) -> Result<Vec<u8>, AllocError> {
+pub(crate) fn longest(heap: Global) -> Result<String, AllocError> {
     let mut maker = Maker {
-        writer: Writer::new(heap),
+        text: String::new(heap),
         numbers: Numbers::new(),
     };
     maker.head()?;
@@ -155,7 +164,6 @@ pub(crate) fn longest(heap: Global) -> Result<Vec<u8>, AllocError> {
     maker.points()?;
     maker.proof_lines(0x70, 6, 4)?;
     maker.moves()?;
-    let Maker { writer, numbers } = maker;
-    drop(numbers);
-    Ok(writer.into_text())
+    let Maker { text, .. } = maker;
+    Ok(text)
 }

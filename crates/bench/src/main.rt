@@ -6,14 +6,14 @@ mod admission;
 mod longest;
 mod numbers;
 mod timing;
-mod writer;
 
-use sheet::opening;
+use anyhow::Context;
+use layout::fault::OpenFault;
+use sheet::opening::open;
 use sheet::read::read;
 use sources::sheet::run_down;
 use sources::source::Source;
 use std::rt::Clock;
-use std::time::Instant;
 use timing::Timing;
 
 const CELLS: usize = 32_067;
@@ -23,31 +23,22 @@ const READS: u32 = 200;
 const OPENINGS: u32 = 2000;
 
 fn set_last_digit(text: &mut [u8], turn: u32) {
-    let length = text.len();
-    if length >= 2 {
-        text[length - 2] = if turn % 2 == 0 { b'1' } else { b'2' };
+    if let [.., digit, _] = text {
+        *digit = if turn % 2 == 0 { b'1' } else { b'2' };
     }
 }
 
 fn set_last_cell(cells: &mut [i32], turn: u32) {
-    let length = cells.len();
-    if length >= 1 {
-        cells[length - 1] = (turn & 0xffff) as i32;
+    if let Some(cell) = cells.last_mut() {
+        *cell = (turn & 0xffff) as i32;
     }
 }
 
-// The number of cells read, none where the text is refused.
-fn count_read(text: &[u8], cells: &mut [i32]) -> usize {
-    read(text, cells).unwrap_or(0)
-}
-
-// Opens the cells and tells the last one, or 0 where they are refused.
-fn last_opened(cells: &[i32]) -> i32 {
+// Opens the cells and tells the last one.
+fn last_opened(cells: &[i32]) -> Result<i32, OpenFault> {
     let mut sheet = run_down();
-    match opening::open(cells, &mut sheet) {
-        Ok(()) => sheet.cell(sheet.count().wrapping_sub(1)),
-        Err(_) => 0,
-    }
+    open(cells, &mut sheet)?;
+    Ok(sheet.cell(sheet.count().wrapping_sub(1)))
 }
 
 // The text differs from read to read, so that no read can be left out; so do the cells below.
@@ -60,9 +51,8 @@ fn time_reads(
     let mut sum = 0usize;
     for turn in 0..READS {
         set_last_digit(text, turn);
-        let start = Instant::now(rt)?;
-        sum = sum.wrapping_add(count_read(text, cells));
-        timing.add(rt, start)?;
+        let answer = timing.turn(rt, || read(text, cells))?;
+        sum = sum.wrapping_add(answer.ok().context("the text is refused")?);
     }
     let rate = timing.rate(text.len());
     println!(rt; "{READS} reads, {sum} cells in all")?;
@@ -75,9 +65,8 @@ fn time_openings(rt: &(impl Print + Eprint + Clock), cells: &mut [i32]) -> anyho
     let mut sum = 0i64;
     for turn in 0..OPENINGS {
         set_last_cell(cells, turn);
-        let start = Instant::now(rt)?;
-        sum = sum.wrapping_add(last_opened(cells) as i64);
-        timing.add(rt, start)?;
+        let answer = timing.turn(rt, || last_opened(cells))?;
+        sum = sum.wrapping_add(i64::from(answer.ok().context("the cells are refused")?));
     }
     println!(rt; "{OPENINGS} openings, their last cells sum to {sum}")?;
     eprintln!(rt; "opening: {timing}")?;
@@ -85,26 +74,21 @@ fn time_openings(rt: &(impl Print + Eprint + Clock), cells: &mut [i32]) -> anyho
 }
 
 fn checksum(cells: &[i32]) -> i64 {
-    let mut sum = 0i64;
-    for cell in cells {
-        sum = sum.wrapping_mul(31).wrapping_add(*cell as i64);
-    }
-    sum
-}
-
-fn run(rt: &HostRuntime) -> anyhow::Result<()> {
-    let heap = rt.alloc();
-    let mut text = longest::longest(heap)?;
-    let mut cells: Vec<i32> = vec![in heap; 0; CELLS]?;
-    let bytes = text.len();
-    println!(rt; "text of {bytes} bytes, {CELLS} cells")?;
-    time_reads(rt, &mut text, &mut cells)?;
-    let sum = checksum(&cells);
-    println!(rt; "checksum {sum}")?;
-    time_openings(rt, &mut cells)?;
-    admission::time_both(rt)
+    cells.iter().fold(
+        0i64,
+        |sum, cell| sum.wrapping_mul(31).wrapping_add(i64::from(*cell)),
+    )
 }
 
 fn main(rt: HostRuntime) -> anyhow::Result<()> {
-    run(&rt)
+    let heap = rt.alloc();
+    let mut text = longest::longest(heap)?.into_bytes();
+    let mut cells: Vec<i32> = vec![in heap; 0; CELLS]?;
+    let bytes = text.len();
+    println!(rt; "text of {bytes} bytes, {CELLS} cells")?;
+    time_reads(&rt, &mut text, &mut cells)?;
+    let sum = checksum(&cells);
+    println!(rt; "checksum {sum}")?;
+    time_openings(&rt, &mut cells)?;
+    admission::time_both(&rt)
 }

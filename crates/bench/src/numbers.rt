@@ -16,12 +16,11 @@ impl Numbers {
             .wrapping_mul(6_364_136_223_846_793_005)
             .wrapping_add(1_442_695_040_888_963_407);
         self.state = state;
-        ((state >> 32) & 0xffff_ffff) as u32
+        (state >> 32) as u32
     }
 
     // A number from 0 to one below `count`; 0 where that is 0.
     pub(crate) fn below(&mut self, count: u32) -> u32 {
-        let number = self.next();
-        if count == 0 { 0 } else { number % count }
+        self.next().checked_rem(count).unwrap_or(0)
     }
 }

@@ -3,7 +3,7 @@ use std::rt::Clock;
 use std::time::Instant;
 use std::{fmt, io};
 
-#[derive(Clone, Copy)]
+#[derive(Clone, Copy, Debug, PartialEq, Eq)]
 pub struct Timing {
     turns: u32,
     total: u128,
@@ -19,13 +19,21 @@ impl Timing {
         }
     }
 
-    // Counts a turn that began at `start` and ends now.
-    pub(crate) fn add(&mut self, clock: &impl Clock, start: Instant) -> io::Result<()> {
+    // Times a turn of the task and hands on what it answers.
+    pub(crate) fn turn<T: Drop, F: FnOnce() -> T>(
+        &mut self,
+        clock: &impl Clock,
+        task: F,
+    ) -> io::Result<T>
+        requires { F.IsAlwaysCallable task }
+    {
+        let start = Instant::now(clock)?;
+        let answer = task();
         let time = start.elapsed(clock)?.as_nanos();
         self.turns = self.turns.saturating_add(1);
         self.total = self.total.saturating_add(time);
         self.fastest = self.fastest.min(time);
-        Ok(())
+        Ok(answer)
     }
 
     // Nanoseconds for one of so many parts of the fastest turn.

@@ -1,6 +1,6 @@
 // Changes of a base sheet's text.
 use crate::escape::unescape;
-use anyhow::anyhow;
+use anyhow::bail;
 use std::alloc::{AllocError, Global};
 
 #[derive(Drop)]
@@ -24,16 +24,13 @@ fn numbered(heap: Global, words: &str) -> anyhow::Result<(usize, Vec<u8>)> {
 // The text in which a line is replaced.
 fn with_line(heap: Global, text: &[u8], number: usize, line: &[u8]) -> Result<Vec<u8>, AllocError> {
     let mut edited = Vec::new(heap);
-    let mut at = 1usize;
-    for byte in text {
-        if *byte == b'\n' && at == number {
+    let replaced = number.checked_sub(1);
+    for (at, found) in text.split_inclusive(|byte| *byte == b'\n').enumerate() {
+        if replaced != Some(at) {
+            edited.extend_from_slice(found)?;
+        } else if found.ends_with(b"\n") {
             edited.extend_from_slice(line)?;
-        }
-        if *byte == b'\n' || at != number {
-            edited.push(*byte)?;
-        }
-        if *byte == b'\n' {
-            at = at.saturating_add(1);
+            edited.push(b'\n')?;
         }
     }
     Ok(edited)
@@ -48,17 +45,18 @@ fn put(text: &mut Vec<u8>, at: usize, bytes: &[u8]) {
 impl Edit {
     pub(crate) fn parse(heap: Global, words: &str) -> anyhow::Result<Edit> {
         let (verb, rest) = words.split_once(' ').unwrap_or((words, ""));
-        if verb == "cut" {
-            return Ok(Edit::Cut(rest.parse::<usize>()?));
-        }
-        if verb == "add" {
-            return Ok(Edit::Add(unescape(heap, rest)?));
-        }
-        let (number, bytes) = numbered(heap, rest)?;
         match verb {
-            "put" => Ok(Edit::Put(number, bytes)),
-            "line" => Ok(Edit::Line(number, bytes)),
-            _ => Err(anyhow!("no such edit")),
+            "cut" => Ok(Edit::Cut(rest.parse::<usize>()?)),
+            "add" => Ok(Edit::Add(unescape(heap, rest)?)),
+            "put" => {
+                let (at, bytes) = numbered(heap, rest)?;
+                Ok(Edit::Put(at, bytes))
+            }
+            "line" => {
+                let (number, bytes) = numbered(heap, rest)?;
+                Ok(Edit::Line(number, bytes))
+            }
+            _ => bail!("no such edit"),
         }
     }
 

@@ -2,10 +2,11 @@
 #![tactic(auto)]
 
 mod admission_case;
+mod call;
 mod due;
 mod edit;
 mod escape;
-mod outcome;
+mod failure;
 mod reading_case;
 mod text;
 
@@ -14,26 +15,18 @@ use reading_case::reading_agrees;
 use std::fs;
 use std::rt::Files;
 
-#[derive(Clone, Copy)]
-enum Table {
-    Readings,
-    Admissions,
-}
-
-#[derive(Clone, Copy)]
+#[derive(Clone, Copy, Debug, PartialEq, Eq)]
 struct Tally {
     cases: u64,
     differ: u64,
 }
 
-fn agrees(
-    rt: &(impl Files + Print + AllocGlobal),
-    table: Table,
-    line: &str,
-) -> anyhow::Result<bool> {
-    match table {
-        Table::Readings => reading_agrees(rt, line),
-        Table::Admissions => admission_agrees(rt, line),
+impl Tally {
+    fn with(self, agrees: bool) -> Tally {
+        Tally {
+            cases: self.cases.saturating_add(1),
+            differ: self.differ.saturating_add(u64::from(!agrees)),
+        }
     }
 }
 
@@ -42,42 +35,44 @@ fn is_case(line: &str) -> bool {
     !line.trim().is_empty() && !line.starts_with("#")
 }
 
-fn judge(
-    rt: &(impl Files + Print + AllocGlobal),
-    table: Table,
-    lines: &str,
-) -> anyhow::Result<Tally> {
+fn judge<F: Fn(&str) -> anyhow::Result<bool>>(lines: &str, agrees: F) -> anyhow::Result<Tally>
+    requires { F.IsAlwaysCallable agrees }
+{
     let mut tally = Tally {
         cases: 0,
         differ: 0,
     };
-    for line in lines.lines() {
-        if is_case(line) {
-            tally.cases = tally.cases.saturating_add(1);
-            if !agrees(rt, table, line)? {
-                tally.differ = tally.differ.saturating_add(1);
-            }
-        }
+    for line in lines.lines().filter(|line| is_case(line)) {
+        tally = tally.with(agrees(line)?);
     }
     Ok(tally)
 }
 
-fn compare(rt: &HostRuntime, table: Table) -> anyhow::Result<()> {
-    let (file, name) = match table {
-        Table::Readings => ("reading.txt", "cases"),
-        Table::Admissions => ("admission.txt", "admissions"),
-    };
+fn compare<F: Fn(&str) -> anyhow::Result<bool>>(
+    rt: &(impl Files + Print + AllocGlobal),
+    file: &str,
+    name: &str,
+    agrees: F,
+) -> anyhow::Result<()>
+    requires { F.IsAlwaysCallable agrees }
+{
     let lines = fs::read_to_string(rt, file)?;
-    let Tally { cases, differ } = judge(rt, table, lines.as_str())?;
+    let Tally { cases, differ } = judge(lines.as_str(), agrees)?;
     println!(rt; "{cases} {name}, {differ} differ")?;
     Ok(())
 }
 
-fn run(rt: &HostRuntime) -> anyhow::Result<()> {
-    compare(rt, Table::Readings)?;
-    compare(rt, Table::Admissions)
-}
-
 fn main(rt: HostRuntime) -> anyhow::Result<()> {
-    run(&rt)
+    compare(
+        &rt,
+        "reading.txt",
+        "cases",
+        |line| reading_agrees(&rt, line),
+    )?;
+    compare(
+        &rt,
+        "admission.txt",
+        "admissions",
+        |line| admission_agrees(&rt, line),
+    )
 }

@@ -1,16 +1,15 @@
 // The fields of a table's lines, and the texts that they tell of.
 use crate::edit::Edit;
 use crate::escape::unescape;
-use anyhow::anyhow;
+use std::alloc::{AllocError, Global};
 use std::fs;
 use std::rt::Files;
 
-// The first field of a line that has a count of them, and what follows its bar.
-pub(crate) fn field<'a>(line: &'a str, count: &str) -> anyhow::Result<(&'a str, &'a str)> {
-    match line.split_once('|') {
-        Some((field, rest)) => Ok((field.trim(), rest)),
-        None => Err(anyhow!("a case has {count} fields")),
-    }
+// The fields of a line, at most `count`, with bars between them.
+pub(crate) fn fields(heap: Global, line: &str, count: usize) -> Result<Vec<&str>, AllocError> {
+    line.splitn(count, '|')
+        .map(|field| field.trim())
+        .collect(heap)
 }
 
 // The text of a literal, or of the file of a base sheet, `@NAME`.
@@ -25,10 +24,10 @@ fn base(rt: &(impl Files + AllocGlobal), words: &str) -> anyhow::Result<Vec<u8>>
 // The whole text: the base, then each edit after a semicolon.
 pub(crate) fn text_of(rt: &(impl Files + AllocGlobal), words: &str) -> anyhow::Result<Vec<u8>> {
     let heap = rt.alloc();
-    let mut parts = words.split(';');
-    let mut text = base(rt, parts.next().unwrap_or("").trim())?;
+    let mut parts = words.split(';').map(|part| part.trim());
+    let mut text = base(rt, parts.next().unwrap_or(""))?;
     for words in parts {
-        Edit::parse(heap, words.trim())?.apply(heap, &mut text)?;
+        Edit::parse(heap, words)?.apply(heap, &mut text)?;
     }
     Ok(text)
 }

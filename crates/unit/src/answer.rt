@@ -1,12 +1,12 @@
 // What the console answers to a command, done or not.
-use crate::describe::Description;
+use crate::description::Description;
 use crate::mistake::Mistake;
 use crate::refused::Refused;
-use layout::fault::OpenFault;
 use std::alloc::AllocError;
 use std::fmt;
+use thiserror::Error;
 
-#[derive(Drop)]
+#[derive(Clone, Copy)]
 pub enum Answer {
     Read { cells: usize },
     BuiltIn { cells: usize },
@@ -14,10 +14,14 @@ pub enum Answer {
     Admitted { lines: usize },
 }
 
-#[derive(Drop)]
-pub enum Failure {
-    Refused(Refused),
-    Mistaken(Mistake),
+#[derive(Debug, Drop, Error)]
+pub enum Failure<'a> {
+    #[error(transparent)]
+    Refused(#[from] Refused),
+    #[error("error: {0}")]
+    Mistaken(#[from] Mistake<'a>),
+    #[error("error: out of memory")]
+    Memory(#[from(alloc)] AllocError),
 }
 
 impl fmt::Display for Answer {
@@ -28,32 +32,5 @@ impl fmt::Display for Answer {
             Answer::Described(description) => write!(f, "{description}"),
             Answer::Admitted { lines } => write!(f, "admitted after {lines} proof lines"),
         }
-    }
-}
-
-impl fmt::Display for Failure {
-    fn fmt<W: fmt::Write>(&self, f: &mut fmt::Formatter<W>) -> fmt::Result {
-        match self {
-            Failure::Refused(refused) => write!(f, "{refused}"),
-            Failure::Mistaken(mistake) => write!(f, "error: {mistake}"),
-        }
-    }
-}
-
-impl From<OpenFault> for Failure {
-    fn from(fault: OpenFault) -> Failure {
-        Failure::Refused(Refused::Opening(fault))
-    }
-}
-
-impl From<Mistake> for Failure {
-    fn from(mistake: Mistake) -> Failure {
-        Failure::Mistaken(mistake)
-    }
-}
-
-impl From<AllocError> for Failure {
-    fn from(_error: AllocError) -> Failure {
-        Failure::Mistaken(Mistake::Memory)
     }
 }

@@ -1,38 +1,46 @@
 // What admission is called for with: a form and a count of rank numbers.
+use crate::mistake::Mistake;
+use layout::form::Form;
 use std::fmt;
 
-#[derive(Clone, Copy)]
-pub enum Form {
-    EveryRun,
-    SomeRun,
-}
-
-#[derive(Clone, Copy)]
+#[derive(Clone, Copy, Debug, PartialEq, Eq)]
 pub enum Ranks {
     OneNumber,
     TwoNumbers,
 }
 
-#[derive(Clone, Copy)]
+#[derive(Clone, Copy, Debug, PartialEq, Eq)]
 pub struct Call {
     pub form: Form,
     pub ranks: Ranks,
 }
 
-impl Ranks {
-    pub(crate) fn numbers(self) -> usize {
-        match self {
-            Ranks::OneNumber => 1,
-            Ranks::TwoNumbers => 2,
+impl<'a> TryFrom<&'a str> for Ranks {
+    type Error = Mistake<'a>;
+
+    fn try_from(word: &'a str) -> Result<Ranks, Mistake<'a>> {
+        match word {
+            "1" => Ok(Ranks::OneNumber),
+            "2" => Ok(Ranks::TwoNumbers),
+            _ => Err(Mistake::NoRanks(word)),
         }
     }
 }
 
-impl fmt::Display for Form {
+impl fmt::Display for Ranks {
     fn fmt<W: fmt::Write>(&self, f: &mut fmt::Formatter<W>) -> fmt::Result {
-        match self {
-            Form::EveryRun => write!(f, "every-run"),
-            Form::SomeRun => write!(f, "some-run"),
-        }
+        f.write_str(match self {
+            Ranks::OneNumber => "1",
+            Ranks::TwoNumbers => "2",
+        })
+    }
+}
+
+// No FromStr: that impl would have to stand in the crate of Form, and this error quotes the word.
+pub(crate) fn form_named(word: &str) -> Result<Form, Mistake<'_>> {
+    match word {
+        "every-run" => Ok(Form::EveryRun),
+        "some-run" => Ok(Form::SomeRun),
+        _ => Err(Mistake::NoForm(word)),
     }
 }

@@ -1,14 +1,14 @@
 // A row that a proof line is to show, or that the shown values are to satisfy, in the sheet's own terms.
 use std::fmt;
 
-#[derive(Clone, Copy)]
+#[derive(Clone, Copy, Debug, PartialEq, Eq)]
 pub struct Point {
     pub place: usize,
     pub state: usize,
     pub number: usize,
 }
 
-#[derive(Clone, Copy)]
+#[derive(Clone, Copy, Debug, PartialEq, Eq)]
 pub enum Claim {
     Start {
         row: usize,
@@ -39,24 +39,6 @@ pub enum Claim {
     Impossible,
     // mode 0: every other row
     Zero,
-}
-
-impl Point {
-    pub(crate) fn at(place: usize, state: usize, states: usize) -> Point {
-        Point {
-            place,
-            state,
-            number: place.wrapping_mul(states).wrapping_add(state),
-        }
-    }
-
-    pub(crate) fn numbered(number: usize, states: usize) -> Point {
-        Point {
-            place: number.checked_div(states).unwrap_or(0),
-            state: number.checked_rem(states).unwrap_or(0),
-            number,
-        }
-    }
 }
 
 impl fmt::Display for Point {

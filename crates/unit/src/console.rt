@@ -1,42 +1,40 @@
 // The console's state and what each command does to it.
 use crate::answer::{Answer, Failure};
 use crate::call::{Call, Ranks};
-use crate::command::{Command, parse};
-use crate::describe::describe;
+use crate::command::Command;
+use crate::description::Description;
 use crate::held::Held;
+use crate::misread::Misread;
 use crate::mistake::Mistake;
 use crate::present::Dossier;
-use crate::refused::Refused;
-use crate::stage::{Stage, admit};
+use crate::refused::{Reason, Refused};
+use crate::stage::{AnyForm, Stage, admit};
 use crate::unmet::Unmet;
 use certificate::admitted::Refused as NotAdmitted;
-use certificate::kind::{OneNumber, TwoNumbers};
+use certificate::kind::{OneNumber, RankKind, TwoNumbers};
+use layout::fault::Refusal;
 use sheet::read::read;
 use sources::source::Source;
 use std::alloc::Global;
-use std::{fs, mem};
+use std::fs;
+use std::rt::Files;
 
 #[derive(Drop)]
 pub struct Console {
-    heap: Global,
-    stage: Stage,
+    stage: Option<Stage>,
 }
 
 impl Console {
-    pub(crate) fn new(heap: Global) -> Console {
-        Console {
-            heap,
-            stage: Stage::Empty,
-        }
+    pub(crate) fn new() -> Console {
+        Console { stage: None }
     }
 
-    pub(crate) fn obey(&mut self, rt: &HostRuntime, line: &str) -> Result<Answer, Failure> {
-        let command = parse(self.heap, line)?;
-        self.execute(rt, command)
-    }
-
-    fn execute(&mut self, rt: &HostRuntime, command: Command<'_>) -> Result<Answer, Failure> {
-        match command {
+    pub(crate) fn obey<'a>(
+        &mut self,
+        rt: &(impl Files + AllocGlobal),
+        line: &'a str,
+    ) -> Result<Answer, Failure<'a>> {
+        match Command::try_from(line)? {
             Command::Read { file, cells } => self.read(rt, file, cells),
             Command::BuiltIn => Ok(self.built_in()),
             Command::Describe => self.describe(),
@@ -45,77 +43,77 @@ impl Console {
     }
 
     // The stage is set last, so that a sheet that is refused leaves what was there.
-    fn read(&mut self, rt: &HostRuntime, file: &str, room: usize) -> Result<Answer, Failure> {
-        let Ok(text) = fs::read(rt, file) else {
-            let file = String::from_str(self.heap, file)?;
-            return Err(Failure::Mistaken(Mistake::CannotOpen(file)));
-        };
-        let list = cells_of(self.heap, text, room)?;
-        let held = Held::open(list)?;
+    fn read<'a>(
+        &mut self,
+        rt: &(impl Files + AllocGlobal),
+        file: &'a str,
+        room: usize,
+    ) -> Result<Answer, Failure<'a>> {
+        let text = fs::read(rt, file).map_err(|_| Mistake::CannotOpen(file))?;
+        let held = Held::open(cells_of(rt.alloc(), text, room)?).map_err(Refused::from)?;
         let cells = held.count();
-        self.stage = Stage::Read(Dossier::Held(held));
+        self.stage = Some(Stage::Read(Dossier::Held(held)));
         Ok(Answer::Read { cells })
     }
 
     fn built_in(&mut self) -> Answer {
         let dossier = Dossier::BuiltIn;
         let cells = dossier.count();
-        self.stage = Stage::Read(dossier);
+        self.stage = Some(Stage::Read(dossier));
         Answer::BuiltIn { cells }
     }
 
-    fn describe(&self) -> Result<Answer, Failure> {
-        match self.stage.dossier() {
-            None => Err(Failure::Mistaken(Mistake::NoDossier)),
-            Some(dossier) => Ok(Answer::Described(describe(dossier))),
+    fn describe<'a>(&self) -> Result<Answer, Failure<'a>> {
+        let stage = self.stage.as_ref().ok_or(Mistake::NoDossier)?;
+        Ok(Answer::Described(Description(stage.dossier().head())))
+    }
+
+    fn admit<'a>(&mut self, call: Call) -> Result<Answer, Failure<'a>> {
+        match call.ranks {
+            Ranks::OneNumber => self.admit_at(OneNumber, call, Stage::OneNumber),
+            Ranks::TwoNumbers => self.admit_at(TwoNumbers, call, Stage::TwoNumbers),
         }
     }
 
     // A dossier that is admitted already is judged anew.
-    fn admit(&mut self, call: Call) -> Result<Answer, Failure> {
-        let Some(dossier) = mem::replace(&mut self.stage, Stage::Empty).release() else {
-            return Err(Failure::Mistaken(Mistake::NoDossier));
-        };
-        match call.ranks {
-            Ranks::OneNumber => match admit(dossier, call.form, OneNumber) {
-                Ok((lines, admitted)) => {
-                    self.stage = Stage::OneNumber(admitted);
-                    Ok(Answer::Admitted { lines })
-                }
-                Err(refused) => Err(self.keep(refused, call)),
-            },
-            Ranks::TwoNumbers => match admit(dossier, call.form, TwoNumbers) {
-                Ok((lines, admitted)) => {
-                    self.stage = Stage::TwoNumbers(admitted);
-                    Ok(Answer::Admitted { lines })
-                }
-                Err(refused) => Err(self.keep(refused, call)),
-            },
+    fn admit_at<'a, K: RankKind + Drop, F: FnOnce(AnyForm<K>) -> Stage>(
+        &mut self,
+        kind: K,
+        call: Call,
+        stage: F,
+    ) -> Result<Answer, Failure<'a>>
+        requires { F.IsAlwaysCallable stage }
+    {
+        let dossier = self.stage.take().ok_or(Mistake::NoDossier)?.release();
+        match admit(dossier, call.form, kind) {
+            Ok((lines, admitted)) => {
+                self.stage = Some(stage(admitted));
+                Ok(Answer::Admitted { lines })
+            }
+            Err(refused) => Err(Failure::Refused(self.keep(refused, call))),
         }
     }
 
     // Keeps the dossier that was handed back and says what it does not meet.
-    fn keep<K: Drop>(&mut self, refused: NotAdmitted<Dossier, K>, call: Call) -> Failure {
-        let NotAdmitted {
-            fault,
-            source,
-            kind,
-        } = refused;
-        drop(kind);
+    fn keep<K: Drop>(&mut self, refused: NotAdmitted<Dossier, K>, call: Call) -> Refused {
+        let NotAdmitted { fault, source, .. } = refused;
         let unmet = Unmet::of(&source, fault, call);
-        self.stage = Stage::Read(source);
-        Failure::Refused(Refused::Admission { fault, unmet })
+        self.stage = Some(Stage::Read(source));
+        Refused {
+            refusal: Refusal::from(fault),
+            reason: unmet.map_or(Reason::NoSuchMove, Reason::Unmet),
+        }
     }
 }
 
 // The cells of a sheet's text, read into a buffer of `room` cells.
-fn cells_of(heap: Global, text: Vec<u8>, room: usize) -> Result<Vec<i32>, Failure> {
+fn cells_of<'a>(heap: Global, text: Vec<u8>, room: usize) -> Result<Vec<i32>, Failure<'a>> {
     let mut cells = vec![in heap; 0; room]?;
-    match read(text.as_slice(), cells.as_mut_slice()) {
+    match read(&text, &mut cells) {
         Ok(count) => {
             cells.truncate(count);
             Ok(cells)
         }
-        Err(fault) => Err(Failure::Refused(Refused::Reading { fault, text })),
+        Err(fault) => Err(Failure::Refused(Refused::from(Misread { fault, text }))),
     }
 }

@@ -5,7 +5,8 @@ ghost use Rattle.sheet.specs.Outcomes.{verdict};
 
 use layout::fault::OpenFault;
 use sheet::opening::open;
-use sources::sheet::{Sheet, run_down};
+use sources::cells::value_at;
+use sources::sheet::run_down;
 use sources::source::Source;
 
 #[derive(Drop)]
@@ -25,11 +26,10 @@ impl Held {
 }
 
 // Whether the cells are a full sheet's.
-fn judge<'a>(list: &'a [i32]) -> Result<(), OpenFault>
+fn judge(list: &[i32]) -> Result<(), OpenFault>
     ensures { result ≡ verdict (well_formed list.now) }
 {
-    let mut sheet: Sheet<'a> = run_down();
-    open(list, &mut sheet)
+    open(list, &mut run_down())
 }
 
 impl Source for Held {
@@ -42,10 +42,6 @@ impl Source for Held {
     }
 
     fn cell(&self, index: usize) -> i32 {
-        if index < self.cells.len() {
-            self.cells[index]
-        } else {
-            0
-        }
+        value_at(&self.cells, index)
     }
 }

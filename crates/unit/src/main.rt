@@ -6,24 +6,24 @@ mod call;
 mod claim;
 mod command;
 mod console;
-mod describe;
+mod description;
 mod held;
+mod misread;
 mod mistake;
 mod present;
 mod refused;
-mod shape;
+mod rows;
 mod stage;
 mod unmet;
 
 use console::Console;
 use std::io::{BufRead, BufReader, Read};
+use std::rt::Files;
 use std::{env, fs, io};
 
 fn main(rt: HostRuntime) -> io::Result<()> {
-    let mut args = env::args(&rt)?;
     // the first is the program's own name
-    let _ = args.next();
-    let Some(script) = args.next() else {
+    let Some(script) = env::args(&rt)?.nth(1) else {
         return obey(&rt, rt.stdin());
     };
     match fs::open(&rt, script.as_str()) {
@@ -33,9 +33,9 @@ fn main(rt: HostRuntime) -> io::Result<()> {
 }
 
 // A line that is no text is obeyed as text with marks in place of its faults, so that it gets its answer too.
-fn obey<R: Read + Drop>(rt: &HostRuntime, script: R) -> io::Result<()> {
+fn obey<R: Read + Drop>(rt: &(impl Files + Print + AllocGlobal), script: R) -> io::Result<()> {
     let heap = rt.alloc();
-    let mut console = Console::new(heap);
+    let mut console = Console::new();
     for line in BufReader::new(heap, script)?.split(heap, b'\n') {
         let Ok(bytes) = line else {
             return println!(rt; "error: the script cannot be read on");
@@ -46,7 +46,11 @@ fn obey<R: Read + Drop>(rt: &HostRuntime, script: R) -> io::Result<()> {
     Ok(())
 }
 
-fn respond(rt: &HostRuntime, console: &mut Console, line: &str) -> io::Result<()> {
+fn respond(
+    rt: &(impl Files + Print + AllocGlobal),
+    console: &mut Console,
+    line: &str,
+) -> io::Result<()> {
     if line.is_empty() || line.starts_with('#') {
         return Ok(());
     }

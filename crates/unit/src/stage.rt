@@ -1,37 +1,36 @@
 // How far the console has come with a dossier.
-use crate::call::Form;
 use crate::present::Dossier;
-use certificate::admit::{admit_every_run, admit_some_run};
+use certificate::admit;
 use certificate::admitted::{Admitted, EveryRun, Refused, SomeRun};
 use certificate::kind::{OneNumber, RankKind, TwoNumbers};
+use layout::form::Form;
 
-// An admitted dossier of either form.
+// An admitted dossier of either form. Each arm below stands for another type, so that no one pattern takes two of them.
 #[derive(Drop)]
-pub enum Either<K> {
+pub enum AnyForm<K> {
     EveryRun(Admitted<Dossier, K, EveryRun>),
     SomeRun(Admitted<Dossier, K, SomeRun>),
 }
 
 #[derive(Drop)]
 pub enum Stage {
-    Empty,
     Read(Dossier),
-    OneNumber(Either<OneNumber>),
-    TwoNumbers(Either<TwoNumbers>),
+    OneNumber(AnyForm<OneNumber>),
+    TwoNumbers(AnyForm<TwoNumbers>),
 }
 
-impl<K: Drop> Either<K> {
+impl<K: Drop> AnyForm<K> {
     fn dossier(&self) -> &Dossier {
         match self {
-            Either::EveryRun(admitted) => admitted.source(),
-            Either::SomeRun(admitted) => admitted.source(),
+            AnyForm::EveryRun(admitted) => admitted.source(),
+            AnyForm::SomeRun(admitted) => admitted.source(),
         }
     }
 
     fn release(self) -> Dossier {
         let (dossier, _) = match self {
-            Either::EveryRun(admitted) => admitted.release(),
-            Either::SomeRun(admitted) => admitted.release(),
+            AnyForm::EveryRun(admitted) => admitted.release(),
+            AnyForm::SomeRun(admitted) => admitted.release(),
         };
         dossier
     }
@@ -39,40 +38,38 @@ impl<K: Drop> Either<K> {
 
 impl Stage {
     // The dossier, for reading.
-    pub(crate) fn dossier(&self) -> Option<&Dossier> {
+    pub(crate) fn dossier(&self) -> &Dossier {
         match self {
-            Stage::Empty => None,
-            Stage::Read(dossier) => Some(dossier),
-            Stage::OneNumber(admitted) => Some(admitted.dossier()),
-            Stage::TwoNumbers(admitted) => Some(admitted.dossier()),
+            Stage::Read(dossier) => dossier,
+            Stage::OneNumber(admitted) => admitted.dossier(),
+            Stage::TwoNumbers(admitted) => admitted.dossier(),
         }
     }
 
     // The dossier, no longer admitted.
-    pub(crate) fn release(self) -> Option<Dossier> {
+    pub(crate) fn release(self) -> Dossier {
         match self {
-            Stage::Empty => None,
-            Stage::Read(dossier) => Some(dossier),
-            Stage::OneNumber(admitted) => Some(admitted.release()),
-            Stage::TwoNumbers(admitted) => Some(admitted.release()),
+            Stage::Read(dossier) => dossier,
+            Stage::OneNumber(admitted) => admitted.release(),
+            Stage::TwoNumbers(admitted) => admitted.release(),
         }
     }
 }
 
-// Admits a dossier in a form; answers the number of proof lines judged.
+// Admits a dossier in a form; answers the number of proof lines judged. The form is a value here and a type there.
 pub(crate) fn admit<K: RankKind>(
     dossier: Dossier,
     form: Form,
     kind: K,
-) -> Result<(usize, Either<K>), Refused<Dossier, K>> {
+) -> Result<(usize, AnyForm<K>), Refused<Dossier, K>> {
     match form {
         Form::EveryRun => {
-            let (lines, admitted) = admit_every_run(dossier, kind)?;
-            Ok((lines, Either::EveryRun(admitted)))
+            let (lines, admitted) = admit::admit(dossier, kind, EveryRun)?;
+            Ok((lines, AnyForm::EveryRun(admitted)))
         }
         Form::SomeRun => {
-            let (lines, admitted) = admit_some_run(dossier, kind)?;
-            Ok((lines, Either::SomeRun(admitted)))
+            let (lines, admitted) = admit::admit(dossier, kind, SomeRun)?;
+            Ok((lines, AnyForm::SomeRun(admitted)))
         }
     }
 }

@@ -1,0 +1,37 @@
+// What admission is called for with: a form and a count of rank numbers. The console's call answers a wrong word by a sentence of its own.
+use anyhow::bail;
+use layout::form::Form;
+use std::str::FromStr;
+
+#[derive(Clone, Copy, Debug, PartialEq, Eq)]
+pub enum Ranks {
+    OneNumber,
+    TwoNumbers,
+}
+
+#[derive(Clone, Copy, Debug, PartialEq, Eq)]
+pub struct Call {
+    pub form: Form,
+    pub ranks: Ranks,
+}
+
+impl FromStr for Ranks {
+    type Err = anyhow::Error;
+
+    fn from_str(word: &str) -> anyhow::Result<Ranks> {
+        match word {
+            "1" => Ok(Ranks::OneNumber),
+            "2" => Ok(Ranks::TwoNumbers),
+            _ => bail!("no count of rank numbers"),
+        }
+    }
+}
+
+// No FromStr: that impl would have to stand in the crate of Form.
+pub(crate) fn form_named(word: &str) -> anyhow::Result<Form> {
+    match word {
+        "every-run" => Ok(Form::EveryRun),
+        "some-run" => Ok(Form::SomeRun),
+        _ => bail!("no such form"),
+    }
+}
