@@ -4,7 +4,7 @@ use crate::timing::Timing;
 use anyhow::Context;
 use certificate::admit::admit;
 use certificate::admitted::{Admitted, EveryRun, Refused, SomeRun};
-use certificate::kind::TwoNumbers;
+use certificate::kind::{ByFirstDifference, TwoNumbers};
 use layout::form::Form;
 use sheet::opening::open;
 use sheet::read::read;
@@ -24,8 +24,8 @@ fn handed_back<S, F: Drop>(admission: (usize, Admitted<S, TwoNumbers, F>)) -> (S
 // Admits a dossier and hands it back with the number of proof lines. The form is a value here, and a type of what is admitted.
 fn admitted<S: Source>(source: S, form: Form) -> Result<(S, usize), Refused<S, TwoNumbers>> {
     match form {
-        Form::EveryRun => admit(source, TwoNumbers, EveryRun).map(handed_back),
-        Form::SomeRun => admit(source, TwoNumbers, SomeRun).map(handed_back),
+        Form::EveryRun => admit(source, ByFirstDifference::<2>, EveryRun).map(handed_back),
+        Form::SomeRun => admit(source, ByFirstDifference::<2>, SomeRun).map(handed_back),
     }
 }
 

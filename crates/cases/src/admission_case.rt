@@ -1,12 +1,12 @@
 // A line of the table of admissions: name, form and count of rank numbers called for, answer due and text.
-use crate::call::{Call, Ranks, form_named};
+use crate::call::{Call, Ranks};
 use crate::due::as_due;
 use crate::failure::Failure;
 use crate::text::{fields, text_of};
 use anyhow::{Context, bail};
 use certificate::admit;
 use certificate::admitted::{Admitted, EveryRun, Refused, SomeRun};
-use certificate::kind::{OneNumber, RankKind, TwoNumbers};
+use certificate::kind::{ByFirstDifference, RankKind};
 use layout::fault::Refusal;
 use layout::form::Form;
 use sheet::opening::open;
@@ -70,8 +70,8 @@ fn admit<S: Source + Drop, K: RankKind + Drop>(
 // The kind is a value here, and a type of the call.
 fn judge<S: Source + Drop>(source: S, call: Call) -> Result<usize, Failure> {
     match call.ranks {
-        Ranks::OneNumber => admit(source, call.form, OneNumber),
-        Ranks::TwoNumbers => admit(source, call.form, TwoNumbers),
+        Ranks::OneNumber => admit(source, call.form, ByFirstDifference::<1>),
+        Ranks::TwoNumbers => admit(source, call.form, ByFirstDifference::<2>),
     }
 }
 
@@ -98,7 +98,7 @@ pub(crate) fn admission_agrees(
         bail!("a case has five fields");
     };
     let call = Call {
-        form: form_named(form)?,
+        form: form.parse::<Form>().ok().context("no such form")?,
         ranks: ranks.parse::<Ranks>()?,
     };
     let answer = match words {

@@ -26,12 +26,3 @@ impl FromStr for Ranks {
         }
     }
 }
-
-// No FromStr: that impl would have to stand in the crate of Form.
-pub(crate) fn form_named(word: &str) -> anyhow::Result<Form> {
-    match word {
-        "every-run" => Ok(Form::EveryRun),
-        "some-run" => Ok(Form::SomeRun),
-        _ => bail!("no such form"),
-    }
-}

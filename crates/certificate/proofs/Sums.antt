@@ -1,10 +1,7 @@
 -- Sums of products, one after the other.
-use Rattle.std.proofs.Common.{◌≡◌, ℕ, ◌+◌, ◌<◌, ◌≤◌, List, [], ◌∷◌, length, get_or, drop, ℤ, pos, ◌+ℤ◌, ◌*ℤ◌, sym, ap, ◌∙◌, add-one}
-use lib.IntN.{+ℤ_assoc, +ℤ_idr}
-use Rattle.std.proofs.lemmas.List.{drop_more, drop_all}
-use Rattle.dossier.specs.Lines.{sums}
+use Rattle.std.proofs.Common.{◌≡◌, ℕ, ◌+◌, ℤ, ◌+ℤ◌, sym, ap, ◌∙◌, add-one}
+use lib.IntN.{+ℤ_assoc}
 use Rattle.dossier.specs.Rows.{sum_to}
-use Rattle.certificate.specs.Arrays.{rows_of}
 
 -- one term more
 pub sum_to_more : (a s t : ℤ) (n : ℕ) (f : ℕ → ℤ) → s ≡ a +ℤ sum_to n f → t ≡ f n → s +ℤ t ≡ a +ℤ sum_to (n + 1) f

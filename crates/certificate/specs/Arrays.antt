@@ -1,5 +1,5 @@
 -- Rows as the code holds them: seven numbers, a constant and up to six coefficients.
-use Rattle.std.specs.Prelude.{◌≡◌, ℕ, zero, suc, ◌<◌, ◌≤◌, cond, List, [], map, length, ℤ, pos, negsuc, neg_ℤ, ◌≤ℤ◌, nat_lt, slice_index_or}
+use Rattle.std.specs.Prelude.{◌≡◌, ℕ, zero, suc, ◌<◌, ◌≤◌, cond, List, map, length, ℤ, pos, neg_ℤ, ◌≤ℤ◌, nat_lt, slice_index_or}
 use Rattle.dossier.specs.Rows.{Row, zero_row}
 use Rattle.arrayvec.specs.ArrayVec.{ArrayVec}
 

@@ -39,38 +39,24 @@ fn fall_of(numbers: usize, mode: usize, index: usize) -> Fall
     }
 }
 
-// Ranks of one number.
+// Ranks of so many numbers, the outer before the inner: lower at the first number that differs.
 #[derive(Clone, Copy)]
-pub struct OneNumber;
+pub struct ByFirstDifference<const NUMBERS: usize>;
 
-impl RankKind for OneNumber {
-    ghost kind = { by_first_difference 1 };
+pub type OneNumber = ByFirstDifference<1>;
 
-    ghost lawful = { kinds_law 1 };
+pub type TwoNumbers = ByFirstDifference<2>;
+
+impl<const NUMBERS: usize> RankKind for ByFirstDifference<NUMBERS> {
+    ghost kind = { by_first_difference NUMBERS };
+
+    ghost lawful = { kinds_law NUMBERS };
 
     fn numbers(&self) -> usize {
-        1
+        NUMBERS
     }
 
     fn fall(&self, mode: usize, index: usize) -> Fall {
-        fall_of(1, mode, index)
-    }
-}
-
-// Ranks of two numbers, the outer before the inner.
-#[derive(Clone, Copy)]
-pub struct TwoNumbers;
-
-impl RankKind for TwoNumbers {
-    ghost kind = { by_first_difference 2 };
-
-    ghost lawful = { kinds_law 2 };
-
-    fn numbers(&self) -> usize {
-        2
-    }
-
-    fn fall(&self, mode: usize, index: usize) -> Fall {
-        fall_of(2, mode, index)
+        fall_of(NUMBERS, mode, index)
     }
 }

@@ -36,8 +36,7 @@ impl<'a, S: Source> View<'a, S> {
         ensures value { result ≡ parts.number (S.cells self.now.source.now) index }
         ensures bounded { result < 2 ^ 31 }
     {
-        let cell = self.cell(index);
-        if cell < 0 { 0 } else { cell as usize }
+        self.cell(index).max(0) as usize
     }
 
     // The row whose constant stands at an index.

@@ -1,8 +1,9 @@
 // The two forms of a certificate.
 ghost use Rattle.std.specs.Prelude.{◌≡◌, Some};
-ghost use Rattle.layout.specs.Forms.{form_number, form_name};
+ghost use Rattle.layout.specs.Forms.{form_number, form_name, Named};
 
 use std::fmt;
+use std::str::FromStr;
 
 #[derive(Clone, Copy, Debug, PartialEq, Eq)]
 pub enum Form {
@@ -30,5 +31,23 @@ impl fmt::Display for Form {
             Form::EveryRun => "every-run",
             Form::SomeRun => "some-run",
         })
+    }
+}
+
+// A word that names no form.
+#[derive(Clone, Copy, Debug, PartialEq, Eq)]
+pub struct UnknownForm;
+
+impl FromStr for Form {
+    type Err = UnknownForm;
+
+    ghost from_str_gives = { Named };
+
+    fn from_str(word: &str) -> Result<Form, UnknownForm> {
+        match word {
+            "every-run" => Ok(Form::EveryRun),
+            "some-run" => Ok(Form::SomeRun),
+            _ => Err(UnknownForm),
+        }
     }
 }

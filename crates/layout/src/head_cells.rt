@@ -19,7 +19,7 @@ fn count(cell: i32) -> u16
     requires { count_of cell ≤ 255 }
     ensures { result ≡ count_of cell }
 {
-    if cell < 0 { 0 } else { cell as u16 }
+    cell.max(0) as u16
 }
 
 fn form(cell: i32) -> Form

@@ -47,7 +47,7 @@ fn between(low: i64, high: i64, value: i64) -> bool
 pub(crate) fn count_of(value: i64) -> u64
     ensures { result ≡ count_of value }
 {
-    if value < 0 { 0 } else { value as u64 }
+    value.max(0) as u64
 }
 
 pub(crate) fn holds_in(range: Range, value: i64) -> bool

@@ -35,12 +35,3 @@ impl fmt::Display for Ranks {
         })
     }
 }
-
-// No FromStr: that impl would have to stand in the crate of Form, and this error quotes the word.
-pub(crate) fn form_named(word: &str) -> Result<Form, Mistake<'_>> {
-    match word {
-        "every-run" => Ok(Form::EveryRun),
-        "some-run" => Ok(Form::SomeRun),
-        _ => Err(Mistake::NoForm(word)),
-    }
-}

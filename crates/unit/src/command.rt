@@ -1,6 +1,7 @@
 // The commands of the console and how they are written.
-use crate::call::{Call, Ranks, form_named};
+use crate::call::{Call, Ranks};
 use crate::mistake::Mistake;
+use layout::form::Form;
 use std::str::SplitWhitespace;
 
 const DEFAULT_CELLS: usize = 60_000;
@@ -51,7 +52,7 @@ fn parse_call<'a>(words: &mut SplitWhitespace<'a>) -> Result<Call, Mistake<'a>> 
     let form = words.next().ok_or(Mistake::NoCall)?;
     let ranks = words.next().ok_or(Mistake::NoCall)?;
     Ok(Call {
-        form: form_named(form)?,
+        form: form.parse::<Form>().map_err(|_| Mistake::NoForm(form))?,
         ranks: Ranks::try_from(ranks)?,
     })
 }

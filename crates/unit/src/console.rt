@@ -11,7 +11,7 @@ use crate::refused::{Reason, Refused};
 use crate::stage::{AnyForm, Stage, admit};
 use crate::unmet::Unmet;
 use certificate::admitted::Refused as NotAdmitted;
-use certificate::kind::{OneNumber, RankKind, TwoNumbers};
+use certificate::kind::{ByFirstDifference, RankKind};
 use layout::fault::Refusal;
 use sheet::read::read;
 use sources::source::Source;
@@ -70,8 +70,8 @@ impl Console {
 
     fn admit<'a>(&mut self, call: Call) -> Result<Answer, Failure<'a>> {
         match call.ranks {
-            Ranks::OneNumber => self.admit_at(OneNumber, call, Stage::OneNumber),
-            Ranks::TwoNumbers => self.admit_at(TwoNumbers, call, Stage::TwoNumbers),
+            Ranks::OneNumber => self.admit_at(ByFirstDifference::<1>, call, Stage::OneNumber),
+            Ranks::TwoNumbers => self.admit_at(ByFirstDifference::<2>, call, Stage::TwoNumbers),
         }
     }
 

@@ -1,9 +1,8 @@
-use Rattle.std.proofs.Common.{◌≡◌, ℕ, zero, suc, ◌+◌, ◌-◌, ◌*◌, ◌≤◌, ⊎_elim, List, [], ◌∷◌, length, get_or, ℤ, pos, ◌+ℤ◌, ◌*ℤ◌, sym, refl, ap, ◌∙◌, subst, ap₂, arith, w64, SFits, to_z, of_z, rules}
+use Rattle.std.proofs.Common.{◌≡◌, ℕ, suc, ◌+◌, ◌-◌, ◌*◌, ⊎_elim, List, [], ◌∷◌, length, get_or, ℤ, pos, ◌+ℤ◌, ◌*ℤ◌, sym, ap, ◌∙◌, subst, ap₂, arith, w64, SFits, rules}
 use lib.IntN.{+ℤ_assoc, +ℤ_idr}
 use Rattle.std.proofs.lemmas.Int.{to_z-of_z}
 use Rattle.dossier.specs.Lines.{sums}
-use Rattle.dossier.specs.Rows.{Row}
-use Rattle.certificate.specs.Arrays.{Within, row_of, rows_of, Multiplied}
+use Rattle.certificate.specs.Arrays.{Within, rows_of, Multiplied}
 use Rattle.certificate.proofs.Bounds.{sum_within, within_more, fits_64}
 use Rattle.certificate.proofs.Weights.{first_factor, first_number, others}
 use Rattle.certificate.proofs.line.column_sum.Goals as goal

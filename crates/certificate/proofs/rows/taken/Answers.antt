@@ -1,10 +1,8 @@
-use Rattle.std.proofs.Common.{◌≡◌, ◌<◌, cond, [], length, get_or, pos, negsuc, ◌≤ℤ◌, sym, ap, ◌∙◌, subst, arith, length-set, lt-ltb, w64, SFits, rules}
+use Rattle.std.proofs.Common.{◌≡◌, ◌<◌, [], length, get_or, ◌∙◌, arith, length-set, w64, SFits, rules}
 use Rattle.std.proofs.lemmas.Int.{to_z-of_z}
 use Rattle.dossier.specs.Rows as rows
 use Rattle.certificate.specs.Arrays.{row_of, seven}
-use Rattle.certificate.proofs.Bounds.{within_more}
 use Rattle.certificate.proofs.Fill.{filled_more, filled_seven}
-use Rattle.certificate.proofs.RowBounds.{taken_within, seven_within}
 use Rattle.certificate.proofs.rows.taken.Goals as goal
 
 pub loop-j-preserved : goal.loop-j-preserved

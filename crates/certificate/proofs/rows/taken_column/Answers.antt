@@ -1,10 +1,9 @@
-use Rattle.std.proofs.Common.{◌≡◌, suc, ◌+◌, ◌*◌, ℕ, ◌<◌, List, [], get_or, take, ℤ, pos, negsuc, ◌+ℤ◌, ◌*ℤ◌, ◌≤ℤ◌, sym, ap, ◌∙◌, subst, add-one, arith, w64, SFits, rules}
+use Rattle.std.proofs.Common.{◌≡◌, suc, ◌+◌, ◌*◌, ℕ, ◌<◌, List, [], get_or, take, ℤ, pos, ◌+ℤ◌, ◌*ℤ◌, sym, ap, ◌∙◌, subst, add-one, arith, w64, SFits, rules}
 use Rattle.std.proofs.lemmas.List.{get_or-take}
 use Rattle.std.proofs.lemmas.Int.{to_z-of_z}
 use Rattle.dossier.specs.Rows.{sum_to, constant, taken}
 use Rattle.certificate.specs.Arrays.{row_of, Within, wide}
 use Rattle.certificate.proofs.Bounds.{sum_within, within_more, fits_64}
-use Rattle.certificate.proofs.RowBounds.{taken_within}
 use Rattle.certificate.proofs.Sums.{sum_to_more}
 use Rattle.certificate.proofs.rows.taken_column.Goals as goal
 

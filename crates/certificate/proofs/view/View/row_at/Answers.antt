@@ -1,10 +1,8 @@
-use Rattle.std.proofs.Common.{◌≡◌, ℕ, ◌+◌, cond, ltb, leb, get_or, replicate, pos, negsuc, ◌≤ℤ◌, sym, ap, ◌∙◌, subst, arith, le-ltb, length-set, w32, w64, SFits, to_z, of_z, rules}
+use Rattle.std.proofs.Common.{◌≡◌, ◌+◌, cond, ltb, leb, replicate, pos, sym, ap, ◌∙◌, arith, le-ltb, length-set, w32, w64, SFits, to_z, of_z, rules}
 use Rattle.std.proofs.lemmas.List.{length-take-le}
 use Rattle.std.proofs.lemmas.Int.{to_z-of_z}
 use Rattle.dossier.specs.Dossier as parts
 use Rattle.certificate.proofs.Fill.{filled_more, up_to, zeros_front, padded}
-use Rattle.certificate.proofs.RowBounds.{row_small}
-use Rattle.certificate.proofs.view.View.row_at.Given as given
 use Rattle.certificate.proofs.view.View.row_at.Goals as goal
 
 pub loop-j-preserved : goal.loop-j-preserved
