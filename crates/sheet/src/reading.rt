@@ -53,11 +53,10 @@ fn number_of(digits: Digits, raw: u32) -> i64
     requires { raw < 16 ^ digits_of digits }
     ensures { result ≡ bytes.number_of digits raw }
 {
-    let number = raw as i64;
     match digits {
-        Digits::Four if number >= 0x8000 => number - 0x1_0000,
-        Digits::Value if number >= 0x8000_0000 => number - 0x1_0000_0000,
-        _ => number,
+        Digits::Two | Digits::Eight => raw as i64,
+        Digits::Four => (raw as u16).cast_signed() as i64,
+        Digits::Value => raw.cast_signed() as i64,
     }
 }
 

@@ -1,4 +1,3 @@
-use Rattle.std.proofs.Common.{refl}
 use Rattle.sheet.proofs.due.head_fields.Goals as goal
 
 pub returns : goal.returns
