@@ -62,10 +62,9 @@ impl<'a> Fields for Checker<'a> {
 
     fn field(&mut self, digits: Digits, range: Range) -> Result<i32, OpenFault> {
         let at = self.place.byte;
-        if at >= self.list.len() {
+        let Some(&value) = self.list.get(at) else {
             return Err(OpenFault::NotWellFormed);
-        }
-        let value = self.list[at];
+        };
         if !passes_in(digits, range, value as i64) {
             return Err(OpenFault::NotWellFormed);
         }

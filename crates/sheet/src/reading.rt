@@ -78,16 +78,15 @@ impl<'a> Reader<'a> {
         ensures behind { IfOk result (λ d. (d < 16) × (self.new.place ≡ bytes.ahead self.old.place 1)) }
     {
         let at = self.place.byte;
-        if at >= self.text.len() {
+        let Some(&b) = self.text.get(at) else {
             return Err(FieldFault::Over(self.place));
-        }
-        let b = self.text[at];
+        };
         let digit = nibble(b);
         if digit < 16 {
             self.place.byte = at + 1;
             return Ok(digit as u8);
         }
-        if b == 10 {
+        if b == b'\n' {
             Err(FieldFault::LineFeed(self.place))
         } else {
             Err(FieldFault::NoDigit(self.place))
@@ -191,10 +190,10 @@ impl<'a> Fields for Reader<'a> {
 
     fn end(&mut self) -> Result<(), LineFault> {
         let at = self.place;
-        if at.byte >= self.text.len() {
+        let Some(&b) = self.text.get(at.byte) else {
             return Err(LineFault::Unended(at));
-        }
-        if self.text[at.byte] != 10 {
+        };
+        if b != b'\n' {
             return Err(LineFault::NoLineFeed(at));
         }
         self.place = Place {

@@ -38,6 +38,8 @@ impl<'a> From<&'a Frame> for Line<'a> {
     }
 }
 
+// What supplies the fields; how lines are made of them is written once, for all that do. The store is passed beside it: as
+// one struct with the fields, the proof that the store's cells are those lent did not close, two structs deep.
 pub(crate) trait Fields {
     type Fault;
 
@@ -78,7 +80,7 @@ pub(crate) trait Fields {
         Ok(())
     }
 
-    // The leading fields of a line; their values go to the front of `values` too, an array of the caller's: there is no heap.
+    // The leading fields of a line; their values go to the front of `values` too, which is an array: there is no heap.
     final fn leads(
         &mut self,
         lead: &[Field],
