@@ -20,7 +20,8 @@ fn all_between(part: &[i32], low: i32, high: i32) -> bool
     part.iter().fold(true, |all, value| all & (low <= *value) & (*value <= high))
 }
 
-// The lowest and the highest cell that the digits can write.
+// The lowest and the highest cell that the digits can write. One table for this and `is_writable` would be of 64 bits, since
+// eight digits write more than a cell holds, and its bounds would have to be cast back here.
 fn span(digits: Digits) -> (i32, i32)
     ensures { (v : ℤ) → FitsSigned w32 v → between result.0 result.1 v ≡ writable digits v }
 {

@@ -367,7 +367,7 @@ fn group_cells(group: &Group) -> usize
     group.times as usize * once
 }
 
-// How many cells a head calls for. By hand: of a chain's `sum` it is known that it fits, and not that 13 more do.
+// How many cells a head calls for. A `for`, since of a chain's `sum` it is known that it fits, and not that 13 more do.
 pub(crate) fn cells_due(head: &Head) -> usize
     ensures { result ≡ fields.cells_due (counts_of head.now) }
 {

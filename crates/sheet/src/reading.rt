@@ -93,7 +93,7 @@ impl<'a> Reader<'a> {
         }
     }
 
-    // Digits one by one, up to the first byte that is none.
+    // Digits one by one, up to the first byte that is none: its place is what the fast way of `digits` can't tell.
     fn judged_digits(&mut self, count: u8) -> Result<u32, FieldFault>
         requires { count ≤ 8 }
         ensures same { self.new.text ≡ self.old.text }
