@@ -1,34 +1,19 @@
 -- A byte at a place, and the digits from there.
-use Rattle.std.proofs.Common.{◌≡◌, ℕ, suc, ◌+◌, ◌-◌, ◌*◌, ◌^◌, ◌<◌, ◌≤◌, cond, List, [], ◌∷◌, ◌++◌, length, get_or, take, drop, Some, None, Ok, Err, Option, sym, refl, ap, ◌∙◌, subst, add_assoc, pow-suc, add-one, arith, lit<, length-drop, ne_eqb}
+use Rattle.std.proofs.Common.{◌≡◌, ℕ, suc, ◌+◌, ◌-◌, ◌*◌, ◌^◌, ◌<◌, ◌≤◌, List, [], ◌∷◌, ◌++◌, length, get_or, take, drop, Some, None, Ok, Err, Option, sym, refl, ap, ◌∙◌, add_assoc, pow-suc, add-one, arith, lit<, length-drop}
 use native.Mathlib.Nat.{pow-le-pow_right}
-use Rattle.std.proofs.lemmas.List.{at_drop_more, at_drop_all, drop-drop, drop_more, length-take-le, take-append-drop}
+use Rattle.std.proofs.lemmas.List.{drop-drop, drop_more, length-take-le, take-append-drop}
 use Rattle.layout.specs.declared.fault.Place.{Place}
 use Rattle.layout.specs.declared.fault.FieldFault.{FieldFault}
-use Rattle.layout.specs.declared.fault.FieldFault.TheVariants.{Over, LineFeed, NoDigit}
-use Rattle.layout.specs.declared.fault.LineFault.TheVariants.{NoLineFeed, Unended}
-use Rattle.layout.specs.Reading.{nibble, no_digit, digits, ahead, shift, line_end}
+use Rattle.layout.specs.Reading.{nibble, digits, ahead, shift}
 use Rattle.layout.specs.Walk.{next}
 use Rattle.sheet.specs.Digit.{digit_of, one_digit, Whole}
-
-module _ (text : List ℕ) (p : Place) where
-  pub digit_over : length text ≤ p.byte → one_digit (drop p.byte text) p ≡ Err (Over p)
-  digit_over h = at_drop_all (λ l. one_digit l p) text p.byte h
-
-  pub digit_there : (b : ℕ) → b ≡ get_or text p.byte 0 → p.byte < length text → {o : Option ℕ} → o ≡ nibble b → one_digit (drop p.byte text) p ≡ digit_of b p o
-  digit_there b e h {o} n = at_drop_more (λ l. one_digit l p) text p.byte 0 h ∙ ap (λ x. digit_of x p (nibble x)) (sym e) ∙ ap (digit_of b p) (sym n)
-
-  pub feed_there : (b : ℕ) → b ≡ 10 → no_digit b p ≡ LineFeed p
-  feed_there b e = ap (λ x. no_digit x p) e
-
-  pub other_there : (b : ℕ) → (b ≡ 10 → ⊥) → no_digit b p ≡ NoDigit p
-  other_there b e = ap (λ x. cond x (LineFeed p) (NoDigit p)) (ne_eqb b 10 e)
 
 pub ahead_more : (p : Place) (i j : ℕ) {q r : Place} → q ≡ ahead p i → r ≡ ahead q j → r ≡ ahead p (i + j)
 ahead_more p i j e f = f ∙ ap (λ x. ahead x j) e ∙ ap (λ n. record { line = p.line; byte = n }) (add_assoc p.byte i j)
 
 -- one digit of several
 module _ (n v : ℕ) where
-  pub digits_more : (l : List ℕ) (p : Place) (d : ℕ) → one_digit l p ≡ Ok d → digits (suc n) v l p ≡ digits n (v * 16 + d) (drop 1 l) (ahead p 1)
+  digits_more : (l : List ℕ) (p : Place) (d : ℕ) → one_digit l p ≡ Ok d → digits (suc n) v l p ≡ digits n (v * 16 + d) (drop 1 l) (ahead p 1)
   digits_more [] p d e = let z : ◌≡◌ {A = ℕ} 0 1 = cc in absurd (omega arith)
   digits_more (b ∷ l) p d e = go (nibble b) e
     where
@@ -36,7 +21,7 @@ module _ (n v : ℕ) where
       go None h = let z : ◌≡◌ {A = ℕ} 0 1 = cc in absurd (omega arith)
       go (Some x) h = let same : x ≡ d = cc in ap (λ y. digits n (v * 16 + y) l (ahead p 1)) same
 
-  pub digits_stop : (l : List ℕ) (p : Place) (f : FieldFault) → one_digit l p ≡ Err f → digits (suc n) v l p ≡ Err f
+  digits_stop : (l : List ℕ) (p : Place) (f : FieldFault) → one_digit l p ≡ Err f → digits (suc n) v l p ≡ Err f
   digits_stop [] p f e = cc
   digits_stop (b ∷ l) p f e = go (nibble b) e
     where
@@ -68,17 +53,6 @@ seven_digits i h = pow-le-pow_right (lit< tt) {i = i} {j = 7} (omega arith)
 pub shifted_most : (i v d most : ℕ) → 15 * v + most ≤ most * 16 ^ i → d ≤ most → 15 * (v * 16 + d) + most ≤ most * 16 ^ (i + 1)
 shifted_most i v d most hv hd = rw (add-one, pow-suc) (omega arith)
 
--- the end of a line
-module _ (text : List ℕ) (p : Place) where
-  pub end_over : length text ≤ p.byte → line_end (drop p.byte text) p ≡ Err (Unended p)
-  end_over h = at_drop_all (λ l. line_end l p) text p.byte h
-
-  pub end_feed : p.byte < length text → get_or text p.byte 0 ≡ 10 → line_end (drop p.byte text) p ≡ Ok (record { line = p.line + 1; byte = p.byte + 1 })
-  end_feed h e = at_drop_more (λ l. line_end l p) text p.byte 0 h ∙ ap (λ b. line_end (b ∷ []) p) e
-
-  pub end_other : p.byte < length text → (get_or text p.byte 0 ≡ 10 → ⊥) → line_end (drop p.byte text) p ≡ Err (NoLineFeed p)
-  end_other h e = at_drop_more (λ l. line_end l p) text p.byte 0 h ∙ ap (λ t. cond t (Ok (record { line = p.line + 1; byte = p.byte + 1 })) (Err (NoLineFeed p))) (ne_eqb (get_or text p.byte 0) 10 e)
-
 -- one byte of several that may all be digits
 pub part_more : (part more : List ℕ) (i v d : ℕ) (p : Place) → i < length part → nibble (get_or part i 0) ≡ Some d → digits (length part - i) v (drop i part ++ more) (ahead p i) ≡ digits (length part - (i + 1)) (v * 16 + d) (drop (i + 1) part ++ more) (ahead p (i + 1))
 part_more part more i v d p here e =
@@ -95,9 +69,6 @@ module _ (text : List ℕ) (p : Place) (count v : ℕ) (inside : p.byte ≤ leng
 
   long : length (take (p.byte + count - p.byte) (drop p.byte text)) ≡ count
   long = ap length front ∙ length-take-le count (drop p.byte text) (simp length-drop (omega arith))
-
-  pub fast_small : v < 16 ^ count
-  fast_small = subst (λ n. v < 16 ^ n) long whole.0
 
   pub fast_digits : digits count 0 (drop p.byte text) p ≡ Ok v
   fast_digits =

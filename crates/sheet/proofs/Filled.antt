@@ -49,7 +49,7 @@ module _ (text : List ℕ) (room : ℕ) (s : Store) where
       go (Err d) k = cc
 
   -- a pass that ends well puts the list
-  pub passed : {t : Store} → read_with put text room s ≡ Ok t → (list : List ℤ) × (read_text text room ≡ Ok list) × (puts s list ≡ t)
+  passed : {t : Store} → read_with put text room s ≡ Ok t → (list : List ℤ) × (read_text text room ≡ Ok list) × (puts s list ≡ t)
   passed {t} h = go (read_text text room) refl (sym (through text room s) ∙ h)
     where
       go : (x : Result (List ℤ) ReadFault) → read_text text room ≡ x → seen_whole append put (puts s) (puts_append s) x ≡ Ok t → (list : List ℤ) × (read_text text room ≡ Ok list) × (puts s list ≡ t)

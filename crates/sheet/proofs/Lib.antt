@@ -2,7 +2,6 @@ pub mod Bytes
 pub mod Filled
 pub mod Formed
 pub mod Lent
-pub mod Listed
 pub mod Nibbles
 pub mod Passing
 pub mod Runs

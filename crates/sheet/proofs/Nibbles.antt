@@ -40,13 +40,6 @@ pub is_digit : (o : Option ℕ) (d : ℕ) → d ≡ unwrap_or o no → d < no �
 is_digit None d e h = absurd (omega (arith, e))
 is_digit (Some x) d e h = ap Some (sym e)
 
-pub no_digit_at : (b d : ℕ) → d ≡ unwrap_or (nibble b) no → 16 ≤ d → nibble b ≡ None
-no_digit_at b d e h = go (nibble b) refl
-  where
-    go : (o : Option ℕ) → nibble b ≡ o → nibble b ≡ None
-    go None f = f
-    go (Some x) f = absurd (omega (arith, e, ap (λ o. unwrap_or o no) f, (digit_nibble b x f).0))
-
 -- a table entry's bound, so that sums of entries fit
 pub at_most_no : (b d : ℕ) → d ≡ unwrap_or (nibble b) no → d ≤ no
 at_most_no b d e = go (nibble b) refl

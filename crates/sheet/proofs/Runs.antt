@@ -17,7 +17,7 @@ use Rattle.layout.specs.Checking.{cell_at, cell_supply}
 use Rattle.layout.specs.Reading.{ahead}
 use Rattle.layout.specs.Walk.{next, run}
 use Rattle.sheet.specs.declared.store.Store.{Store}
-use Rattle.sheet.specs.Store.{reaching, put, puts}
+use Rattle.sheet.specs.Store.{put, puts}
 
 both_false : (a : Bool) → both a false ≡ false
 both_false true = refl
@@ -88,7 +88,7 @@ puts_past s [] h = refl
 puts_past s (v ∷ vs) h = ap (λ t. puts t vs) nowhere ∙ puts_past s vs h
   where
     nowhere : put s v ≡ s
-    nowhere = ap₂ (reaching s.cells) (ap (λ t. cond t (s.next + 1) s.next) (le-ltb s.next (length s.cells.now) h)) (set_past s.cells.now s.next v h)
+    nowhere = ap₂ (λ n cells. record { cells = record s.cells { now = cells }; next = n }) (ap (λ t. cond t (s.next + 1) s.next) (le-ltb s.next (length s.cells.now) h)) (set_past s.cells.now s.next v h)
 
 -- a run takes the cells from a place on, if there are so many and every one passes
 run_cells : (cells : List ℤ) (d : Digits) (r : Range) (n : ℕ) (s : Store) (p : Place) (cs : List ℤ) → drop p.byte cells ≡ cs → run (cell_supply cells) put d r n s p ≡ cond (all_hold d r n (take n cs)) (Ok (puts s (take n cs), ahead p n)) (Err NotWellFormed)

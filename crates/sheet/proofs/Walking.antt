@@ -1,15 +1,13 @@
 -- One step of a walk, and its end.
-use Rattle.std.proofs.Common.{◌≡◌, ℕ, suc, ◌+◌, ◌<◌, List, [], ◌∷◌, ◌++◌, length, get_or, drop, ℤ, IsErrAnd, Ok, Err, Result, sym, refl, ap, ◌∙◌}
-use Rattle.std.proofs.lemmas.List.{drop_more}
+use Rattle.std.proofs.Common.{◌≡◌, ℕ, suc, List, [], ◌∷◌, ◌++◌, ℤ, IsErrAnd, Ok, Err, Result, sym, refl, ap, ◌∙◌}
 use Rattle.std.specs.List.{flat_map}
 use Rattle.layout.specs.declared.fault.Place.{Place}
 use Rattle.layout.specs.declared.field.Digits.{Digits}
 use Rattle.layout.specs.declared.field.Range.{Range}
-use Rattle.layout.specs.declared.field.Field.{Field}
 use Rattle.layout.specs.declared.frame.Frame.{Frame}
 use Rattle.layout.specs.declared.frame.Group.{Group}
-use Rattle.layout.specs.Layout.{Counts, range_of, leading, groups, group_lines, lines_due}
-use Rattle.layout.specs.Walk.{Supply, next, leads, run, line, frame, frames}
+use Rattle.layout.specs.Layout.{Counts, groups, group_lines, lines_due}
+use Rattle.layout.specs.Walk.{Supply, next, run, frame, frames}
 use Rattle.sheet.specs.Store.{Answers}
 
 -- the exit of a `?`
@@ -35,20 +33,6 @@ module _ {E A : Type 0} (u : Supply E) (push : A → ℤ → A) {w : Supply E} (
       ap (λ m. run u push d r m a p) s
       ∙ ap (λ x. next x (λ y. run u push d r n (push a y.0) y.1)) (ap (λ z. z.field d r p) (sym same) ∙ h)
 
-  -- the field at i, with a range that was worked out from the values so far
-  module _ (lead : List Field) (i : ℕ) (d : Field) (earlier : List ℤ) (here : i < length lead) {r : Range} (known : r ≡ range_of (get_or lead i d).test earlier) where
-    pub leads_more : (later : List ℤ) (a b : A) (p : Place) {v : ℤ} {q : Place} → w.field (get_or lead i d).digits r p ≡ Ok (v, q) → later ≡ earlier ++ v ∷ [] → b ≡ push a v → leads u push earlier (drop i lead) a p ≡ leads u push later (drop (i + 1) lead) b q
-    leads_more later a b p {v} {q} h l s =
-        ap (λ z. leads u push earlier z a p) (drop_more lead i d here)
-        ∙ ap (λ x. next x (λ y. leads u push (earlier ++ y.0 ∷ []) (drop (i + 1) lead) (push a y.0) y.1)) (ap (λ z. u.field (get_or lead i d).digits z p) (sym known) ∙ ap (λ z. z.field (get_or lead i d).digits r p) (sym same) ∙ h)
-        ∙ ap (λ z. leads u push z (drop (i + 1) lead) (push a v) q) (sym l)
-        ∙ ap (λ z. leads u push later (drop (i + 1) lead) z q) (sym s)
-
-    pub leads_stop : (a : A) (p : Place) {e : E} → w.field (get_or lead i d).digits r p ≡ Err e → leads u push earlier (drop i lead) a p ≡ Err e
-    leads_stop a p h =
-        ap (λ z. leads u push earlier z a p) (drop_more lead i d here)
-        ∙ ap (λ x. next x (λ y. leads u push (earlier ++ y.0 ∷ []) (drop (i + 1) lead) (push a y.0) y.1)) (ap (λ z. u.field (get_or lead i d).digits z p) (sym known) ∙ ap (λ z. z.field (get_or lead i d).digits r p) (sym same) ∙ h)
-
 -- lines after lines
 module _ {E A : Type 0} (u : Supply E) (push : A → ℤ → A) where
   then_lines : (gs hs : List Frame) (a : A) (p : Place) → frames u push (gs ++ hs) a p ≡ next (frames u push gs a p) (λ x. frames u push hs x.0 x.1)
@@ -58,14 +42,6 @@ module _ {E A : Type 0} (u : Supply E) (push : A → ℤ → A) where
       go : ((b : A) (q : Place) → frames u push (gs ++ hs) b q ≡ next (frames u push gs b q) (λ x. frames u push hs x.0 x.1)) → (x : Result (A × Place) E) → next x (λ y. frames u push (gs ++ hs) y.0 y.1) ≡ next (next x (λ y. frames u push gs y.0 y.1)) (λ y. frames u push hs y.0 y.1)
       go more (Ok y) = more y.0 y.1
       go more (Err e) = refl
-
-  -- a frame is a line of its leading fields
-  frame_is : (f : Frame) (lead : List Field) → lead ≡ leading f → (a : A) (p : Place) {x : Result (List ℤ × A × Place) E} → line u push f.kind lead f.rest f.count a p ≡ x → frame u push f a p ≡ next x (λ y. Ok (y.1, y.2))
-  frame_is f lead e a p h = ap (λ y. next y (λ z. Ok (z.1, z.2))) (ap (λ l. line u push f.kind l f.rest f.count a p) (sym e) ∙ h)
-
-  pub frame_answers : {T : Type 0} (f : Frame) (lead : List Field) → lead ≡ leading f → (a : A) (p : Place) (vs : List ℤ) (left : T → A) (q : Place) (r : Result T E) → Answers (λ n. (vs, left n, q)) r (line u push f.kind lead f.rest f.count a p) → Answers (λ n. (left n, q)) r (frame u push f a p)
-  frame_answers f lead e a p vs left q (Ok n) h = frame_is f lead e a p h
-  frame_answers f lead e a p vs left q (Err d) h = frame_is f lead e a p h
 
   pub one_line : (f : Frame) (a : A) (p : Place) {x : Result (A × Place) E} → frame u push f a p ≡ x → frames u push (f ∷ []) a p ≡ x
   one_line f a p {x} h = ap (λ y. next y (λ z. Ok (z.0, z.1))) h ∙ whole x

@@ -1,19 +1,21 @@
 -- What a step of a walk answers and leaves: its result, the place behind it, and the cells that it wrote.
-use Rattle.std.specs.Prelude.{◌≡◌, ℕ, ◌+◌, cond, List, [], ◌∷◌, length, ℤ, Ok, Err, Result, nat_lt, slice_set}
-use Rattle.std.specs.Borrow.{MutBor}
+use Rattle.std.specs.Prelude.{◌≡◌, ◌+◌, cond, List, [], ◌∷◌, length, ℤ, Ok, Err, Result, nat_lt, slice_set}
 use Rattle.layout.specs.declared.fault.Place.{Place}
 use Rattle.layout.specs.declared.head.Head.{Head}
 use Rattle.layout.specs.Heads.{counts_of}
 use Rattle.layout.specs.Layout.{counts}
 use Rattle.sheet.specs.declared.store.Store.{Store}
 
--- the cells behind `r`, with `list` in them, of which `n` is the next free one
-abbrev pub reaching : MutBor (List ℤ) → ℕ → List ℤ → Store
-reaching r n list = record { cells = record r { now = list }; next = n }
+-- the cells lent are the same, whatever stands in them
+abbrev pub SameCells : Store → Store → Type 0
+SameCells before after = after.cells.ghost_name ≡ before.cells.ghost_name
 
 -- a value goes into the next free cell, if there is one
 abbrev pub put : Store → ℤ → Store
-put s v = reaching s.cells (cond (nat_lt s.next (length s.cells.now)) (s.next + 1) s.next) (slice_set s.cells.now s.next v)
+put s v = record {
+  cells = record s.cells { now = slice_set s.cells.now s.next v };
+  next = cond (nat_lt s.next (length s.cells.now)) (s.next + 1) s.next;
+}
 
 -- values go in one after the other
 abbrev pub puts : Store → List ℤ → Store

@@ -20,7 +20,8 @@ fn all_between(part: &[i32], low: i32, high: i32) -> bool
     part.iter().fold(true, |all, value| all & (low <= *value) & (*value <= high))
 }
 
-// The lowest and the highest cell that the digits can write.
+// The lowest and the highest cell that the digits can write. One table for this and `is_writable` would be of 64 bits, since
+// eight digits write more than a cell holds, and its bounds would have to be cast back here.
 fn span(digits: Digits) -> (i32, i32)
     ensures { (v : ℤ) → FitsSigned w32 v → between result.0 result.1 v ≡ writable digits v }
 {
@@ -62,10 +63,9 @@ impl<'a> Fields for Checker<'a> {
 
     fn field(&mut self, digits: Digits, range: Range) -> Result<i32, OpenFault> {
         let at = self.place.byte;
-        if at >= self.list.len() {
+        let Some(&value) = self.list.get(at) else {
             return Err(OpenFault::NotWellFormed);
-        }
-        let value = self.list[at];
+        };
         if !passes_in(digits, range, value as i64) {
             return Err(OpenFault::NotWellFormed);
         }

@@ -1,5 +1,5 @@
 // The lines that a head calls for, as groups of frames.
-ghost use Rattle.std.specs.Prelude.{◌≡◌, ◌+◌, ◌*◌, ◌^◌, ◌<◌, ◌≤◌, pos};
+ghost use Rattle.std.specs.Prelude.{◌≡◌, ◌+◌, ◌*◌, ◌^◌, ◌<◌, ◌≤◌, length, pos};
 ghost use Rattle.layout.specs.Cells as fields;
 ghost use Rattle.layout.specs.Layout as due;
 ghost use Rattle.layout.specs.Heads.{counts_of};
@@ -115,6 +115,7 @@ fn number() -> Field
     }
 }
 
+// From here on the head itself is passed. As methods of a struct that holds it, each clause would name a field more.
 fn row(head: &Head, kind: u8) -> Frame
     ensures { result ≡ due.row (counts_of head.now) kind }
 {
@@ -339,13 +340,21 @@ pub(crate) fn groups(head: &Head) -> [Group; 8]
     ]
 }
 
+// The fields at the front of a frame's line.
+pub(crate) fn leading(frame: &Frame) -> &[Field]
+    ensures value { result.now ≡ due.leading frame.now }
+    ensures few { length result.now ≤ 4 }
+{
+    let count = frame.lead.len().min(frame.leads as usize);
+    &frame.lead[0..count]
+}
+
 // How many fields a frame has.
 fn width(frame: &Frame) -> usize
     ensures value { result ≡ fields.width frame.now }
     ensures bound { result < 2 ^ 17 }
 {
-    let leads = frame.lead.len().min(frame.leads as usize);
-    leads + frame.count as usize
+    leading(frame).len() + frame.count as usize
 }
 
 // How many cells a group's lines have.
@@ -358,7 +367,7 @@ fn group_cells(group: &Group) -> usize
     group.times as usize * once
 }
 
-// How many cells a head calls for. By hand: of a chain's `sum` it is known that it fits, and not that 13 more do.
+// How many cells a head calls for. A `for`, since of a chain's `sum` it is known that it fits, and not that 13 more do.
 pub(crate) fn cells_due(head: &Head) -> usize
     ensures { result ≡ fields.cells_due (counts_of head.now) }
 {

@@ -4,7 +4,7 @@ ghost use Rattle.layout.specs.Cases.{WorkedCases};
 ghost use Rattle.layout.specs.Laws.{ReadExactly, OneToOne, AllCounted};
 ghost use Rattle.layout.specs.Reading.{read_with, read_text};
 ghost use Rattle.sheet.specs.Outcomes.{Read};
-ghost use Rattle.sheet.specs.Store.{put, Answers};
+ghost use Rattle.sheet.specs.Store.{put, SameCells, Answers};
 
 use crate::due::cells_due;
 use crate::reader::Reader;
@@ -15,7 +15,7 @@ use layout::fault::ReadFault;
 // One pass through the text, whose values go into the store; `room` is how many cells the caller has.
 fn go_through(text: &[u8], room: usize, store: &mut Store) -> Result<(), ReadFault>
     ensures walked { Answers (λ u. store.new) result (read_with put text.now room store.old) }
-    ensures lent { OnOk result (store.new.cells.ghost_name ≡ store.old.cells.ghost_name) }
+    ensures lent { OnOk result (SameCells store.old store.new) }
 {
     let mut reader = Reader::new(text);
     let head = reader.head(store)?;

@@ -25,6 +25,7 @@ impl<'a> Store<'a> {
         }
     }
 
+    // Where no cell is free, as in each check of a list, no value is looked at.
     pub(crate) fn put_all(&mut self, values: &[i32])
         ensures { self.new ≡ puts self.old values.now }
     {

@@ -10,7 +10,7 @@ use sources::cells::value_at;
 fn one_below(count: i32) -> i32
     ensures { result ≡ below count }
 {
-    if count > 0 { count - 1 } else { -1 }
+    count.max(0) - 1
 }
 
 // The values that a test allows after the line's earlier fields.
@@ -40,7 +40,7 @@ pub(crate) fn range_of(test: Test, earlier: &[i32]) -> Range
 fn between(low: i64, high: i64, value: i64) -> bool
     ensures { result ≡ between low high value }
 {
-    low <= value && value <= high
+    (low..=high).contains(&value)
 }
 
 // The number of a count, 0 where it is negative.

@@ -6,9 +6,9 @@ ghost use Rattle.layout.specs.Text.{head_kind};
 ghost use Rattle.layout.specs.Walk as walking;
 ghost use Rattle.layout.specs.declared.fault.Place;
 ghost use Rattle.sheet.specs.Line.{IsLineOf};
-ghost use Rattle.sheet.specs.Store.{put, Found, Valued, Stored, Led, Headed};
+ghost use Rattle.sheet.specs.Store.{put, SameCells, Found, Valued, Stored, Led, Headed};
 
-use crate::due::{UNUSED, groups, head_fields};
+use crate::due::{UNUSED, groups, head_fields, leading};
 use crate::store::Store;
 use crate::tests_of::range_of;
 use layout::field::{Digits, Field, Range};
@@ -29,16 +29,17 @@ impl<'a> From<&'a Frame> for Line<'a> {
     ghost from_gives = { λ frame line. IsLineOf line frame.now };
 
     fn from(frame: &'a Frame) -> Line<'a> {
-        let leads = frame.lead.len().min(frame.leads as usize);
         Line {
             kind: frame.kind,
-            lead: &frame.lead[0..leads],
+            lead: leading(frame),
             rest: &frame.rest,
             count: frame.count,
         }
     }
 }
 
+// What supplies the fields; how lines are made of them is written once, for all that do. The store is passed beside it: as
+// one struct with the fields, the proof that the store's cells are those lent did not close, two structs deep.
 pub(crate) trait Fields {
     type Fault;
 
@@ -79,7 +80,7 @@ pub(crate) trait Fields {
         Ok(())
     }
 
-    // The leading fields of a line; their values go to the front of `values` too.
+    // The leading fields of a line; their values go to the front of `values` too, which is an array: there is no heap.
     final fn leads(
         &mut self,
         lead: &[Field],
@@ -91,7 +92,7 @@ pub(crate) trait Fields {
         ensures walked { Led result (take (length lead.now) values.new) store.new (place self.new) (walking.leads (supply self.old) put [] lead.now store.old (place self.old)) }
     {
         for (i, field) in lead.iter().enumerate() {
-            let range = range_of(field.test, &values[0..i]);
+            let range = range_of(field.test, &values[..i]);
             let value = self.field(field.digits, range)?;
             values[i] = value;
             store.put(value);
@@ -112,7 +113,7 @@ pub(crate) trait Fields {
     {
         self.kind(line.kind)?;
         self.leads(line.lead, values, store)?;
-        let range = range_of(line.rest.test, &values[0..line.lead.len()]);
+        let range = range_of(line.rest.test, &values[..line.lead.len()]);
         self.run(line.rest.digits, range, line.count, store)?;
         self.end()
     }
@@ -165,7 +166,7 @@ pub(crate) trait Fields {
     final fn body(&mut self, head: &Head, store: &mut Store) -> Result<(), Self::Fault>
         ensures same { supply self.new ≡ supply self.old }
         ensures walked { Stored result store.new (place self.new) (walking.frames (supply self.old) put (lines_due (counts_of head.now)) store.old (place self.old)) }
-        ensures lent { OnOk result (store.new.cells.ghost_name ≡ store.old.cells.ghost_name) }
+        ensures lent { OnOk result (SameCells store.old store.new) }
     {
         for group in groups(head) {
             self.group(&group, store)?;
@@ -177,7 +178,7 @@ pub(crate) trait Fields {
     final fn head(&mut self, store: &mut Store) -> Result<Head, Self::Fault>
         ensures same { supply self.new ≡ supply self.old }
         ensures walked { Headed result store.new (place self.new) (walking.line (supply self.old) put head_kind head_fields unused 0 store.old (place self.old)) }
-        ensures lent { OnOk result (store.new.cells.ghost_name ≡ store.old.cells.ghost_name) }
+        ensures lent { OnOk result (SameCells store.old store.new) }
     {
         let lead = head_fields();
         let line = Line {
