@@ -12,8 +12,8 @@ use crate::walk::Fields;
 use layout::fault::{FieldFault, LineFault, Place};
 use layout::field::{Digits, Range};
 
-// What stands for a byte that is no digit: a number that it enters is past every number of eight digits. With an Option for
-// each byte a text is read at 306 MB/s, and so at 430.
+// What stands for a byte that is no digit: a number that it enters is past every number of eight digits. With each byte
+// judged by itself a text is read at 306 MB/s, and so at 430.
 const NO: u64 = 0x1_0000_0000;
 
 // The value of each digit's byte, and NO for every other byte.
