@@ -2,7 +2,8 @@
 use Rattle.std.proofs.Common.{◌≡◌, ℕ, ◌+◌, ◌<◌, List, [], ◌∷◌, ◌++◌, length, get_or, set, ℤ, sym, ap, ◌∙◌, arith, get_or-set_other, get_or-set_same, below_more}
 use Rattle.std.proofs.lemmas.List.{length-map, map-append, get_or-map}
 use Rattle.arrayvec.specs.ArrayVec.{ArrayVec}
-use Rattle.dossier.specs.Rows.{Row, zero_row}
+use Rattle.dossier.specs.Rows.{Row, zero_row, each}
+use Rattle.dossier.proofs.Trials.{length_each, getD_each}
 use Rattle.certificate.specs.Arrays.{row_of, rows_of, held}
 
 pub held_length : (t : ArrayVec (List ℤ)) → length (held t) ≡ length t.items
@@ -23,9 +24,10 @@ module _ (rows : List (List ℤ)) (all : List Row) (is : rows_of rows ≡ all) w
   pub row_at : (k : ℕ) → k < length rows → row_of (get_or rows k []) ≡ get_or all k zero_row
   row_at k l = sym (get_or-map row_of rows k [] zero_row l) ∙ ap (λ xs. get_or xs k zero_row) is
 
--- rows of an array that are set one by one
-pub set_more : (rows : List (List ℤ)) (n : ℕ) (row : List ℤ) (f : ℕ → Row) → n < length rows → row_of row ≡ f n → ((v : ℕ) → v < n → row_of (get_or rows v []) ≡ f v) → (v : ℕ) → v < n + 1 → row_of (get_or (set rows n row) v []) ≡ f v
-set_more rows n row f l e h =
-    below_more (λ v. row_of (get_or (set rows n row) v []) ≡ f v) n
-    (λ v k. ap row_of (get_or-set_other rows n v row [] (omega arith)) ∙ h v k)
-    (ap row_of (get_or-set_same rows n row [] l) ∙ e)
+-- the rows that a function of the index gives
+module _ (rows : List (List ℤ)) (n : ℕ) (f : ℕ → Row) (is : rows_of rows ≡ each n f) where
+  pub each_counted : length rows ≡ n
+  each_counted = counted rows (each n f) is ∙ length_each n f
+
+  pub each_row : (k : ℕ) → k < n → row_of (get_or rows k []) ≡ f k
+  each_row k l = row_at rows (each n f) is k (omega (arith, each_counted)) ∙ getD_each n f k zero_row l

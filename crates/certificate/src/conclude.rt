@@ -13,7 +13,7 @@ use sources::source::Source;
 
 impl<'a, S: Source, K: RankKind> Ranked<'a, S, K> {
     // Pushes the region rows and rank rows of a move's last point, taken at its step, and then its fall rows. The rows of its first
-    // point stand at the front of `old`.
+    // point stand at the front of `old`. Mode, step and edge are passed one by one: most of what is called takes one of them.
     pub(crate) fn push_conclusions(
         &self,
         mode: usize,

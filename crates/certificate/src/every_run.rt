@@ -1,4 +1,8 @@
-// The tests of the every-run form.
+// The tests of the every-run form. The form is asked for by a clause: as a type of its own it would be taken apart again by
+// what both forms call.
+//
+// Here and in the other form the loop over lines stands in each search, and is not one function: the project asks for nested
+// loops that are left by a label.
 ghost use Rattle.std.specs.Prelude.{◌≡◌};
 ghost use Rattle.std.specs.List.{flat_map};
 ghost use Rattle.layout.specs.declared.form.Form.TheVariants.{EveryRun};

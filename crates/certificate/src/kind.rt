@@ -13,7 +13,8 @@ pub trait RankKind {
     fn numbers(&self) -> usize
         ensures { result ≡ kind.numbers };
 
-    // The fall row of a mode and an index, the zero row outside the modes.
+    // The fall row of a mode and an index, the zero row outside the modes. A mode is the number that the sheet has: 0, or which
+    // number of a rank falls, from 1; an enum would have to know how many a rank has.
     fn fall(&self, mode: usize, index: usize) -> Fall
         ensures { result ≡ kind.fall mode index };
 

@@ -29,7 +29,8 @@ fn column_sum(multipliers: &[i64], hypotheses: &[Row], column: usize) -> i64
     sum
 }
 
-// Whether a line holds: each coefficient agrees, and the constant suffices.
+// Whether a line holds: each coefficient agrees, and the constant suffices. The loop counts columns, since every row of the line
+// is asked for the same one.
 pub(crate) fn line_holds(
     variables: usize,
     divisor: i64,

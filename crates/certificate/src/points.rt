@@ -50,7 +50,7 @@ impl<'a, S: Source> View<'a, S> {
         place * self.head.states as usize + state
     }
 
-    // The point that a move leads from.
+    // The point that a move leads from. One function of this and the next would take the two readings as parameters.
     pub(crate) fn first_point(&self, step: usize, edge: usize) -> usize
         requires step { step < self.now.head.steps }
         requires edge { edge < self.now.head.edges }

@@ -25,7 +25,7 @@ fn demand(met: bool) -> Row
 }
 
 impl<'a, S: Source> View<'a, S> {
-    // The row of a proposition that must hold at a place.
+    // The row of a proposition that must hold at a place. One function of this and the next would branch on a flag twice.
     fn wanted(&self, place: usize, index: usize) -> Row
         requires { index ≤ 8 }
         ensures { row_of result ≡ admission.wanted (S.cells self.now.source.now) place index }

@@ -5,7 +5,8 @@ ghost use Rattle.certificate.specs.Arrays.{row_of, RowWithin, seven, short, long
 
 use crate::line::product;
 
-// A constant and up to six coefficients.
+// A constant and up to six coefficients. How large the numbers may be is asked by clauses: rows of three bounds stand in one table,
+// and a type for each bound would have to be left wherever a row is pushed.
 pub(crate) type Row = [i64; 7];
 
 pub(crate) fn zero_row() -> Row
@@ -36,15 +37,15 @@ pub(crate) fn difference(old: &Row, new: &Row, less: u8) -> Row
 }
 
 // A column of a row with each variable replaced by a row.
-pub(crate) fn taken_column(variables: usize, row: &Row, updates: &[Row; 6], column: usize) -> i64
-    requires variables { variables ≤ 6 }
+pub(crate) fn taken_column(row: &Row, updates: &[Row], column: usize) -> i64
+    requires few { length updates.now ≤ 6 }
     requires column { column < 7 }
     requires row { RowWithin short (row_of row.now) }
-    requires updates { (v : ℕ) → v < variables → RowWithin wide (row_of (slice_index_or updates.now v [])) }
-    ensures { result ≡ rows.taken variables (row_of row.now) (λ v. row_of (slice_index_or updates.now v [])) column }
+    requires updates { (v : ℕ) → v < length updates.now → RowWithin wide (row_of (slice_index_or updates.now v [])) }
+    ensures { result ≡ rows.taken (length updates.now) (row_of row.now) (λ v. row_of (slice_index_or updates.now v [])) column }
 {
     let mut sum = if column == 0 { row[0] } else { 0 };
-    for (v, update) in updates[..variables].iter().enumerate() {
+    for (v, update) in updates.iter().enumerate() {
         let term = product(row[v + 1], update[column]);
         sum += term;
     }
@@ -52,15 +53,15 @@ pub(crate) fn taken_column(variables: usize, row: &Row, updates: &[Row; 6], colu
 }
 
 // A row with each variable replaced by its update row.
-pub(crate) fn taken(variables: usize, row: &Row, updates: &[Row; 6]) -> Row
-    requires variables { variables ≤ 6 }
+pub(crate) fn taken(row: &Row, updates: &[Row]) -> Row
+    requires few { length updates.now ≤ 6 }
     requires row { RowWithin short (row_of row.now) }
-    requires updates { (v : ℕ) → v < variables → RowWithin short (row_of (slice_index_or updates.now v [])) }
-    ensures { row_of result ≡ seven (rows.taken variables (row_of row.now) (λ v. row_of (slice_index_or updates.now v []))) }
+    requires updates { (v : ℕ) → v < length updates.now → RowWithin short (row_of (slice_index_or updates.now v [])) }
+    ensures { row_of result ≡ seven (rows.taken (length updates.now) (row_of row.now) (λ v. row_of (slice_index_or updates.now v []))) }
 {
     let mut result = [0; 7];
     for (j, number) in result.iter_mut().enumerate() {
-        *number = taken_column(variables, row, updates, j);
+        *number = taken_column(row, updates, j);
     }
     result
 }

@@ -1,25 +1,26 @@
 // The shown values against the rows that they are to satisfy.
-ghost use Rattle.std.specs.Prelude.{◌≡◌, ℕ, ◌<◌, [], slice_index_or};
+ghost use Rattle.std.specs.Prelude.{◌≡◌, ℕ, ◌<◌};
 ghost use Rattle.dossier.specs.Admission as admission;
 ghost use Rattle.dossier.specs.Dossier as parts;
-ghost use Rattle.certificate.specs.Arrays.{row_of, Within, constant_row};
+ghost use Rattle.dossier.specs.Rows.{each};
+ghost use Rattle.certificate.specs.Arrays.{rows_of, Within, constant_row};
 ghost use Rattle.certificate.specs.Outcomes.{passed};
 
 use crate::rows::{Row, taken_column};
 use crate::view::View;
+use arrayvec::ArrayVec;
 use dossier::fault::AdmitFault;
 use sources::source::Source;
 
 impl<'a, S: Source> View<'a, S> {
     // The shown values, each as a row that is this constant.
-    fn shown_values(&self) -> [Row; 6]
-        ensures constant { (v : ℕ) → v < (parts.head (S.cells self.now.source.now)).variables → row_of (slice_index_or result v []) ≡ constant_row (parts.shown (S.cells self.now.source.now) v) }
+    fn shown_values(&self) -> ArrayVec<Row, 6>
+        ensures constant { rows_of result.items ≡ each (parts.head (S.cells self.now.source.now)).variables (λ v. constant_row (parts.shown (S.cells self.now.source.now) v)) }
         ensures within { (v : ℕ) → v < (parts.head (S.cells self.now.source.now)).variables → Within 2147483648 (parts.shown (S.cells self.now.source.now) v) }
     {
-        let mut values = [[0; 7]; 6];
-        let variables = self.head.variables as usize;
-        for (v, value) in values[..variables].iter_mut().enumerate() {
-            *value = [self.shown(v) as i64, 0, 0, 0, 0, 0, 0];
+        let mut values: ArrayVec<Row, 6> = ArrayVec::new();
+        for variable in 0..self.head.variables as usize {
+            values.push([self.shown(variable) as i64, 0, 0, 0, 0, 0, 0]);
         }
         values
     }
@@ -29,12 +30,11 @@ impl<'a, S: Source> View<'a, S> {
         ensures { result ≡ passed (admission.row_trials (S.cells self.now.source.now) 0 (admission.shown_rows (S.cells self.now.source.now))) }
     {
         // a row's value is the constant of the row with each variable replaced by its value
-        let variables = self.head.variables as usize;
         let values = self.shown_values();
         let mut table = self.start_hypotheses();
         self.push_start_point(&mut table);
         for (row, numbers) in table.as_slice().iter().enumerate() {
-            if taken_column(variables, numbers, &values, 0) < 0 {
+            if taken_column(numbers, values.as_slice(), 0) < 0 {
                 return Err(AdmitFault::Shown { row });
             }
         }

@@ -1,4 +1,5 @@
-// A fall row: nothing, or how far one number of a rank falls.
+// A fall row: nothing, or how far one number of a rank falls. No Option of the two others: the definitions of rank kinds match
+// on all three at once.
 
 #[derive(Clone, Copy)]
 pub enum Fall {

@@ -46,7 +46,7 @@ pub enum OpenFault {
     NotWellFormed,
 }
 
-// What every refusal tells: its number and two places.
+// What every refusal tells: its number and two places. The number is what it is known by outside; inside, faults are enums.
 #[derive(Clone, Copy, Debug, PartialEq, Eq)]
 pub struct Refusal {
     pub number: u8,

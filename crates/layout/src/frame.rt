@@ -1,7 +1,9 @@
 // A frame is one line of a sheet; a group is a part of the sheet that is repeated.
 use crate::field::Field;
 
-// Kind, then the first `leads` fields of `lead`, then `count` fields like `rest`.
+// Kind, then the first `leads` fields of `lead`, then `count` fields like `rest`. The kind is the number that its two digits
+// write: an enum would only be turned back into it. `lead` is an array with a count, since a group copies its frames, and a
+// vector of fixed room is not copied.
 #[derive(Clone, Copy)]
 pub struct Frame {
     pub kind: u8,

@@ -10,12 +10,12 @@ loop-j-preserved c =
     let f : SFits w64 c.taken_column.result = search rules in
     let inside : c.loop-j.j < length c.loop-j.number-items = omega arith in (
       length-set _ _ _ ∙ c.loop-j.invariant.0,
-      filled_more c.loop-j.number-items c.loop-j.j (rows.taken c.args.variables (row_of c.args.row.now) (λ v. row_of (get_or c.args.updates.now v []))) _ inside (to_z-of_z w64 c.taken_column.result f ∙ c.taken_column.ensures) c.loop-j.invariant.1,
+      filled_more c.loop-j.number-items c.loop-j.j (rows.taken (length c.args.updates.now) (row_of c.args.row.now) (λ v. row_of (get_or c.args.updates.now v []))) _ inside (to_z-of_z w64 c.taken_column.result f ∙ c.taken_column.ensures) c.loop-j.invariant.1,
     )
 
 -- the row as the definition has it
-made : (c : goal.After-loop-j) → row_of c.loop-j.number-items ≡ seven (rows.taken c.args.variables (row_of c.args.row.now) (λ v. row_of (get_or c.args.updates.now v [])))
-made c = filled_seven c.loop-j.number-items c.loop-j.j (rows.taken c.args.variables (row_of c.args.row.now) (λ v. row_of (get_or c.args.updates.now v []))) (omega arith) c.loop-j.invariant.1
+made : (c : goal.After-loop-j) → row_of c.loop-j.number-items ≡ seven (rows.taken (length c.args.updates.now) (row_of c.args.row.now) (λ v. row_of (get_or c.args.updates.now v [])))
+made c = filled_seven c.loop-j.number-items c.loop-j.j (rows.taken (length c.args.updates.now) (row_of c.args.row.now) (λ v. row_of (get_or c.args.updates.now v []))) (omega arith) c.loop-j.invariant.1
 
 pub returns : goal.returns
 returns c = made c

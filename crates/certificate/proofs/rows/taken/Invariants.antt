@@ -5,4 +5,4 @@ use Rattle.certificate.proofs.Fill.{Filled}
 use Rattle.certificate.proofs.rows.taken.Given as goal
 
 abbrev pub invariant-loop-j : goal.invariant-loop-j
-invariant-loop-j l = (length l.number-items ≡ 7) × Filled l.number-items l.j (rows.taken l.variables (row_of l.row) (λ v. row_of (get_or l.updates v [])))
+invariant-loop-j l = (length l.number-items ≡ 7) × Filled l.number-items l.j (rows.taken (length l.updates) (row_of l.row) (λ v. row_of (get_or l.updates v [])))

@@ -1,15 +1,16 @@
-use Rattle.std.proofs.Common.{◌≡◌, ◌+◌, ◌*◌, ◌<◌, ◌++◌, sym, ap, ◌∙◌, subst, ap₂, arith}
+use Rattle.std.proofs.Common.{◌≡◌, ◌+◌, ◌*◌, ◌<◌, ℕ, List, ℤ, ◌++◌, sym, ap, ◌∙◌, subst, ap₂, arith}
 use Rattle.layout.specs.Layout.{point_rows}
 use Rattle.layout.proofs.Count.{formed_ranges}
 use Rattle.dossier.specs.Admission.{at_step}
 use Rattle.dossier.specs.Dossier as parts
+use Rattle.dossier.specs.Rows.{each}
 use Rattle.dossier.proofs.CellRanges.{program_ranges}
-use Rattle.certificate.specs.Arrays.{held, RowWithin, short}
+use Rattle.certificate.specs.Arrays.{rows_of, held, RowWithin, short}
 use Rattle.certificate.specs.Stored.{stored_row, stored_taken}
 use Rattle.certificate.proofs.Eaches.{pushed, filled_length}
 use Rattle.certificate.proofs.Places.{few_points}
 use Rattle.certificate.proofs.RowBounds.{row_short, update_short, taken_is}
-use Rattle.certificate.proofs.Tables.{held_length, held_push}
+use Rattle.certificate.proofs.Tables.{held_length, held_push, each_counted, each_row}
 use Rattle.certificate.proofs.view.View.push_taken.Goals as goal
 
 pub point_at-at-requires : goal.point_at-at-requires
@@ -26,14 +27,24 @@ taken-requires-clause-row g c =
     let row = c.row_at-row.ensures ∙ ap₂ (λ a w. parts.row_at cells (a + c.loop-i.i * w)) c.point_at-at.ensures.value c.row_width-width.ensures.value in
     subst (RowWithin short) (sym row) (row_short cells _ (ranges.point_rows c.args.point c.loop-i.i c.requires.point inside))
 
+-- the updates as the step has them
+given_updates : (cells : List ℤ) (t : ℕ) (items rows : List (List ℤ)) → rows ≡ items → rows_of items ≡ each (parts.head cells).variables (parts.update cells t) → rows_of rows ≡ each (parts.head cells).variables (parts.update cells t)
+given_updates cells t items rows e is = ap rows_of e ∙ is
+
+pub taken-requires-clause-few : goal.taken-requires-clause-few
+taken-requires-clause-few g c =
+    let cells = g.S.Source.cells c.args.self.now.source.now in
+    let given = given_updates cells c.args.step c.updates-updates.result.items c.as_slice.result.now c.as_slice.ensures.value c.updates-updates.ensures in
+    omega (arith, each_counted _ _ _ given, (formed_ranges cells (g.S.Source.formed c.args.self.now.source.now)).variables_high)
+
 pub taken-requires-clause-updates : goal.taken-requires-clause-updates
 taken-requires-clause-updates g c v l =
     let cells = g.S.Source.cells c.args.self.now.source.now in
     let ranges = program_ranges cells (g.S.Source.formed c.args.self.now.source.now) in
-    let same = c.args.self.now.agrees in
-    let step : c.args.step < (parts.head cells).steps = omega (arith, ap (λ h. h.steps) same) in
-    let inside : v < (parts.head cells).variables = omega (arith, ap (λ h. h.variables) same) in
-    subst (RowWithin short) (sym (c.update_rows-updates.ensures v inside)) (update_short cells ranges c.args.step step v inside)
+    let step : c.args.step < (parts.head cells).steps = omega (arith, ap (λ h. h.steps) c.args.self.now.agrees) in
+    let given = given_updates cells c.args.step c.updates-updates.result.items c.as_slice.result.now c.as_slice.ensures.value c.updates-updates.ensures in
+    let inside : v < (parts.head cells).variables = omega (arith, each_counted _ _ _ given) in
+    subst (RowWithin short) (sym (each_row _ _ _ given v inside)) (update_short cells ranges c.args.step step v inside)
 
 pub push-requires : goal.push-requires
 push-requires g c =
@@ -47,10 +58,11 @@ loop-i-preserved g c =
     let same = c.args.self.now.agrees in
     let step : c.args.step < (parts.head cells).steps = omega (arith, ap (λ h. h.steps) same) in
     let place = parts.point_at (parts.head cells) c.args.point in
+    let given = given_updates cells c.args.step c.updates-updates.result.items c.as_slice.result.now c.as_slice.ensures.value c.updates-updates.ensures in
     let row = c.row_at-row.ensures ∙ ap₂ (λ a w. parts.row_at cells (a + c.loop-i.i * w)) c.point_at-at.ensures.value c.row_width-width.ensures.value in
     pushed (held c.args.table.now) (held c.loop-i.table) c.loop-i.i (λ i. at_step cells c.args.step (stored_row cells place i)) c.loop-i.invariant
     _ _ (held_push _ _ _ c.push.ensures.items)
-    (taken_is cells ranges c.args.step step (stored_row cells place c.loop-i.i) c.row_at-row.result c.taken.result c.update_rows-updates.result c.args.self.now.head.variables row (ap (λ h. h.variables) same) c.update_rows-updates.ensures c.taken.ensures)
+    (taken_is cells ranges c.args.step step (stored_row cells place c.loop-i.i) c.row_at-row.result c.taken.result c.as_slice.result.now _ row (each_counted _ _ _ given) (each_row _ _ _ given) c.taken.ensures)
 
 pub returns : goal.returns
 returns g c =

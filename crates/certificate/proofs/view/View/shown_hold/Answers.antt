@@ -5,7 +5,7 @@ use Rattle.arrayvec.specs.ArrayVec.{ArrayVec}
 use Rattle.dossier.specs.Admission as admission
 use Rattle.dossier.specs.Admission.{first_failure}
 use Rattle.dossier.specs.Dossier as parts
-use Rattle.dossier.specs.Rows.{Row, value, zero_row, taken}
+use Rattle.dossier.specs.Rows.{Row, value, zero_row, taken, each}
 use Rattle.dossier.proofs.InOrder.{row_trial, rows_numbered}
 use Rattle.dossier.proofs.LineLaw.{dot_each}
 use Rattle.dossier.proofs.CellRanges.{program_ranges}
@@ -16,7 +16,7 @@ use Rattle.certificate.proofs.RowBounds.{zero_row_within, sum_to_same}
 use Rattle.certificate.specs.Outcomes.{outcome}
 use Rattle.certificate.proofs.Groups.{start_below}
 use Rattle.certificate.proofs.Numbered.{more, fails, done}
-use Rattle.certificate.proofs.Tables.{counted, row_at}
+use Rattle.certificate.proofs.Tables.{counted, row_at, each_counted, each_row}
 use Rattle.certificate.proofs.WideRows.{shown_short}
 use Rattle.certificate.proofs.view.View.shown_hold.Goals as goal
 
@@ -42,11 +42,22 @@ taken_column-requires-clause-row g c =
     let inside : c.loop-row.row < length (admission.shown_rows cells) = omega (arith, counted _ _ rows) in
     subst (RowWithin short) (sym (row_at _ _ rows c.loop-row.row (omega arith))) (shown_short cells (program_ranges cells formed) (start_below cells formed) c.loop-row.row inside)
 
+-- the shown values, each as a row
+given_values : (cells : List ℤ) (items rows : List (List ℤ)) → rows ≡ items → rows_of items ≡ each (parts.head cells).variables (λ v. constant_row (parts.shown cells v)) → rows_of rows ≡ each (parts.head cells).variables (λ v. constant_row (parts.shown cells v))
+given_values cells items rows e is = ap rows_of e ∙ is
+
+pub taken_column-requires-clause-few : goal.taken_column-requires-clause-few
+taken_column-requires-clause-few g c =
+    let cells = g.S.Source.cells c.args.self.now.source.now in
+    let given = given_values cells c.shown_values-values.result.items c.as_slice.result.now c.as_slice.ensures.value c.shown_values-values.ensures.constant in
+    omega (arith, each_counted _ _ _ given, (program_ranges cells (g.S.Source.formed c.args.self.now.source.now)).counts_in.variables_high)
+
 pub taken_column-requires-clause-updates : goal.taken_column-requires-clause-updates
 taken_column-requires-clause-updates g c v l =
     let cells = g.S.Source.cells c.args.self.now.source.now in
-    let inside : v < (parts.head cells).variables = omega (arith, ap (λ h. h.variables) c.args.self.now.agrees) in
-    subst (RowWithin wide) (sym (c.shown_values-values.ensures.constant v inside)) (constant_wide (parts.shown cells v) (c.shown_values-values.ensures.within v inside))
+    let given = given_values cells c.shown_values-values.result.items c.as_slice.result.now c.as_slice.ensures.value c.shown_values-values.ensures.constant in
+    let inside : v < (parts.head cells).variables = omega (arith, each_counted _ _ _ given) in
+    subst (RowWithin wide) (sym (each_row _ _ _ given v inside)) (constant_wide (parts.shown cells v) (c.shown_values-values.ensures.within v inside))
 
 -- the value of a row as the definition has it
 row_value : (cells : List ℤ) (xs : List (List ℤ)) (n : ℕ) (row : Row) (r : Row) (v : ℤ) → n ≡ (parts.head cells).variables → ((i : ℕ) → i < (parts.head cells).variables → row_of (get_or xs i []) ≡ constant_row (parts.shown cells i)) → row ≡ r → v ≡ taken n row (λ i. row_of (get_or xs i [])) 0 → v ≡ value r (admission.shown_values cells)
@@ -75,7 +86,8 @@ returns-then-taken_column-lt0 g c =
     let rows = listed cells c.push_start_point.new.table c.as_slice-numbers-items.result.now c.start_hypotheses-table.result.items c.as_slice-numbers-items.ensures.value c.push_start_point.ensures c.start_hypotheses-table.ensures in
     let inside : c.loop-row.row < length (admission.shown_rows cells) = omega (arith, counted _ _ rows) in
     let r = get_or (admission.shown_rows cells) c.loop-row.row zero_row in
-    let v = row_value cells c.shown_values-values.result c.args.self.now.head.variables _ r c.taken_column.result (ap (λ h. h.variables) c.args.self.now.agrees) c.shown_values-values.ensures.constant (row_at _ _ rows c.loop-row.row (omega arith)) c.taken_column.ensures in
+    let given = given_values cells c.shown_values-values.result.items c.as_slice.result.now c.as_slice.ensures.value c.shown_values-values.ensures.constant in
+    let v = row_value cells c.as_slice.result.now _ _ r c.taken_column.result (each_counted _ _ _ given) (each_row _ _ _ given) (row_at _ _ rows c.loop-row.row (omega arith)) c.taken_column.ensures in
     let fits : SFits w64 c.taken_column.result = search rules in
     sym (ap outcome (ap first_failure (rows_numbered cells 0 (admission.shown_rows cells)) ∙ fails (row_trial cells) zero_row (admission.shown_rows cells) c.loop-row.row inside (sign_no _ _ v c.if-taken_column-lt0.true fits) c.loop-row.invariant))
 
@@ -85,7 +97,8 @@ loop-row-preserved g c =
     let rows = listed cells c.push_start_point.new.table c.as_slice-numbers-items.result.now c.start_hypotheses-table.result.items c.as_slice-numbers-items.ensures.value c.push_start_point.ensures c.start_hypotheses-table.ensures in
     let inside : c.loop-row.row < length (admission.shown_rows cells) = omega (arith, counted _ _ rows) in
     let r = get_or (admission.shown_rows cells) c.loop-row.row zero_row in
-    let v = row_value cells c.shown_values-values.result c.args.self.now.head.variables _ r c.taken_column.result (ap (λ h. h.variables) c.args.self.now.agrees) c.shown_values-values.ensures.constant (row_at _ _ rows c.loop-row.row (omega arith)) c.taken_column.ensures in
+    let given = given_values cells c.shown_values-values.result.items c.as_slice.result.now c.as_slice.ensures.value c.shown_values-values.ensures.constant in
+    let v = row_value cells c.as_slice.result.now _ _ r c.taken_column.result (each_counted _ _ _ given) (each_row _ _ _ given) (row_at _ _ rows c.loop-row.row (omega arith)) c.taken_column.ensures in
     let fits : SFits w64 c.taken_column.result = search rules in
     more (row_trial cells) zero_row (admission.shown_rows cells) c.loop-row.row inside (sign_yes _ _ v c.if-taken_column-lt0.false fits) c.loop-row.invariant
 
