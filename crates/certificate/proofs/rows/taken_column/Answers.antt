@@ -1,7 +1,7 @@
-use Rattle.std.proofs.Common.{◌≡◌, suc, ◌+◌, ◌*◌, ℕ, ◌<◌, List, [], length, get_or, ℤ, pos, ◌+ℤ◌, ◌*ℤ◌, sym, ap, ◌∙◌, subst, add-one, arith, w64, SFits, rules}
+use Rattle.std.proofs.Common.{◌≡◌, suc, ◌+◌, ◌*◌, [], length, get_or, pos, ◌+ℤ◌, ◌*ℤ◌, ap, ◌∙◌, subst, add-one, arith, w64, SFits, rules}
 use Rattle.std.proofs.lemmas.Int.{to_z-of_z}
 use Rattle.dossier.specs.Rows.{sum_to, constant, taken}
-use Rattle.certificate.specs.Arrays.{row_of, Within, wide}
+use Rattle.certificate.specs.Arrays.{row_of, Within}
 use Rattle.certificate.proofs.Bounds.{sum_within, within_more, fits_64}
 use Rattle.certificate.proofs.Sums.{sum_to_more}
 use Rattle.certificate.proofs.rows.taken_column.Goals as goal

@@ -1,4 +1,4 @@
-use Rattle.std.proofs.Common.{◌≡◌, ℕ, zero, suc, ◌<◌, [], ◌∷◌, ◌++◌, length, get_or, replicate, ℤ, pos, sym, refl, ap, ap₂, ◌∙◌, subst, arith, length-set, w32, w64, SFits, to_z, of_z, rules, below_more}
+use Rattle.std.proofs.Common.{◌≡◌, ℕ, zero, suc, [], ◌∷◌, ◌++◌, length, get_or, replicate, ℤ, pos, sym, refl, ap, ap₂, ◌∙◌, subst, arith, w32, w64, SFits, to_z, of_z, rules, below_more}
 use Rattle.std.proofs.lemmas.List.{map-append, length-map}
 use Rattle.std.proofs.lemmas.Int.{to_z-of_z}
 use Rattle.dossier.specs.Dossier as parts
