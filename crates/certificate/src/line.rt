@@ -1,5 +1,5 @@
 // The test of a proof line.
-ghost use Rattle.std.specs.Prelude.{◌≡◌, ℕ, ◌*◌, ◌<◌, ◌≤◌, pos, negsuc, ◌*ℤ◌, ◌≤ℤ◌};
+ghost use Rattle.std.specs.Prelude.{◌≡◌, ℕ, ◌*◌, ◌<◌, ◌≤◌, pos, ◌+ℤ◌, ◌*ℤ◌, ◌≤ℤ◌};
 ghost use Rattle.dossier.specs.Lines.{sums, line_holds};
 ghost use Rattle.certificate.specs.Arrays.{row_of, rows_of, Within, RowWithin, Multiplied, wide};
 
@@ -15,22 +15,32 @@ pub(crate) fn product(factor: i64, number: i64) -> i64
     factor * number
 }
 
-// The sum of multipliers times hypotheses, in a column.
-fn column_sum(multipliers: &[i64], hypotheses: &[Row], column: usize) -> i64
-    requires column { column < 7 }
-    requires sum { Multiplied multipliers.now hypotheses.now }
-    ensures { result ≡ sums multipliers.now (rows_of hypotheses.now) column }
+// Adds a hypothesis times its multiplier, in every column.
+fn add_scaled(sums: &mut Row, multiplier: i64, row: &Row)
+    requires factor { Within 1048576 multiplier }
+    requires numbers { RowWithin wide (row_of row.now) }
+    requires room { (j : ℕ) → j < 7 → Within 612489549322387456 (row_of sums.old j) }
+    ensures { (j : ℕ) → j < 7 → row_of sums.new j ≡ row_of sums.old j +ℤ (multiplier *ℤ row_of row.now j) }
 {
-    let mut sum = 0;
-    for (multiplier, row) in multipliers.iter().zip(hypotheses) {
-        let term = product(*multiplier, row[column]);
-        sum += term;
+    for (j, sum) in sums.iter_mut().enumerate() {
+        *sum += product(multiplier, row[j]);
     }
-    sum
 }
 
-// Whether a line holds: each coefficient agrees, and the constant suffices. The loop counts columns, since every row of the line
-// is asked for the same one.
+// The sums of multipliers times hypotheses, in every column.
+fn column_sums(multipliers: &[i64], hypotheses: &[Row]) -> Row
+    requires { Multiplied multipliers.now hypotheses.now }
+    ensures { (j : ℕ) → j < 7 → row_of result j ≡ sums multipliers.now (rows_of hypotheses.now) j }
+{
+    let mut sums = [0; 7];
+    for (multiplier, row) in multipliers.iter().zip(hypotheses) {
+        add_scaled(&mut sums, *multiplier, row);
+    }
+    sums
+}
+
+// Whether a line holds: each coefficient agrees, and the constant suffices. The loop counts columns, since sums and conclusion
+// are compared column by column.
 pub(crate) fn line_holds(
     variables: usize,
     divisor: i64,
@@ -44,10 +54,11 @@ pub(crate) fn line_holds(
     requires shown { RowWithin wide (row_of conclusion.now) }
     ensures { result ≡ line_holds variables divisor multipliers.now (rows_of hypotheses.now) (row_of conclusion.now) }
 {
+    let sums = column_sums(multipliers, hypotheses);
     for j in 0..variables {
-        if product(divisor, conclusion[j + 1]) != column_sum(multipliers, hypotheses, j + 1) {
+        if product(divisor, conclusion[j + 1]) != sums[j + 1] {
             return false;
         }
     }
-    column_sum(multipliers, hypotheses, 0) <= product(divisor, conclusion[0])
+    sums[0] <= product(divisor, conclusion[0])
 }
