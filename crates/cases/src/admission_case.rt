@@ -75,7 +75,8 @@ fn judge<S: Source + Drop>(source: S, call: Call) -> Result<usize, Failure> {
     }
 }
 
-// Reads a text, opens a sheet over its cells and has it judged.
+// Reads a text, opens a sheet over its cells and has it judged. As in the program that times it: the two share no crate but the libraries, which
+// allocate no cells.
 fn judge_text(heap: Global, text: &[u8], call: Call) -> anyhow::Result<Result<usize, Failure>> {
     let mut cells: Vec<i32> = vec![in heap; 0; CELLS]?;
     let count = read(text, &mut cells).ok().context("the text is no sheet")?;

@@ -3,6 +3,7 @@ use anyhow::bail;
 use layout::form::Form;
 use std::str::FromStr;
 
+// The counts that this program takes, as the console has its own: the library has kinds of any count.
 #[derive(Clone, Copy, Debug, PartialEq, Eq)]
 pub enum Ranks {
     OneNumber,

@@ -12,7 +12,7 @@ use std::rt::Files;
 // What every cell holds before a reading; no sheet of the table has it.
 const MARKER: i32 = -1_234_567_891;
 
-// The refusal of cells that are no full sheet.
+// The refusal of cells that are no full sheet, written out, so that the number itself is compared.
 const NO_SHEET: Refusal = Refusal {
     number: 0x39,
     first: 0,

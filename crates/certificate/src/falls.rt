@@ -11,7 +11,8 @@ use crate::rows::{Row, difference, zero_row};
 use crate::table::Table;
 use dossier::fall::Fall;
 
-// The rank rows of a point: those of a table from an index on.
+// The rank rows of a point: those of a table from an index on. An index and no slice from it on, since the definitions of what
+// fall rows compare speak of a place.
 #[derive(Clone, Copy)]
 pub(crate) struct Ranks<'a> {
     pub(crate) rows: &'a [Row],

@@ -1,12 +1,12 @@
 // Rank kinds: how many numbers a rank has, and which fall rows each mode calls for.
 ghost use Rattle.std.specs.Prelude.{◌≡◌};
-ghost use Rattle.dossier.specs.Kinds.{Kind, Lawful, ZeroOutside, by_first_difference, fall_of};
-ghost use Rattle.dossier.proofs.KindsLaw.{kinds_law, outside_law};
+ghost use Rattle.dossier.specs.Kinds.{Kind, Lawful, by_first_difference, fall_of};
+ghost use Rattle.dossier.proofs.KindsLaw.{kinds_law};
 
 use dossier::fall::Fall;
 
-// A kind means when one rank falls below another; its laws say that the fall rows of a mode give a fall, that no chain
-// of falls is endless, and that outside the modes and beyond a rank's numbers a fall row is zero. A question changes nothing.
+// A kind means when one rank falls below another; its laws say that the fall rows of a mode give a fall, and that no chain
+// of falls is endless. A question changes nothing.
 pub trait RankKind {
     ghost kind: { Kind };
 
@@ -14,13 +14,11 @@ pub trait RankKind {
         ensures { result ≡ kind.numbers };
 
     // The fall row of a mode and an index, the zero row outside the modes. A mode is the number that the sheet has: 0, or which
-    // number of a rank falls, from 1; an enum would have to know how many a rank has.
+    // number of a rank falls, from 1. The definitions of rank kinds take this number, so an enum would be turned back into it.
     fn fall(&self, mode: usize, index: usize) -> Fall
         ensures { result ≡ kind.fall mode index };
 
     ghost lawful: { Lawful kind };
-
-    ghost outside: { ZeroOutside kind };
 }
 
 // The numbers before the one of the mode do not rise, and that one falls.
@@ -54,8 +52,6 @@ impl<const NUMBERS: usize> RankKind for ByFirstDifference<NUMBERS> {
     ghost kind = { by_first_difference NUMBERS };
 
     ghost lawful = { kinds_law NUMBERS };
-
-    ghost outside = { outside_law NUMBERS };
 
     fn numbers(&self) -> usize {
         NUMBERS

@@ -22,7 +22,7 @@ pub(crate) fn minus_one() -> Row
     [-1, 0, 0, 0, 0, 0, 0]
 }
 
-// One row less another, and the constant less a number.
+// One row less another, and the constant less a number. By the index: a `zip` of three rows would nest.
 pub(crate) fn difference(old: &Row, new: &Row, less: u8) -> Row
     requires old { RowWithin long (row_of old.now) }
     requires new { RowWithin long (row_of new.now) }
@@ -36,7 +36,7 @@ pub(crate) fn difference(old: &Row, new: &Row, less: u8) -> Row
     result
 }
 
-// A column of a row with each variable replaced by a row.
+// A column of a row with each variable replaced by a row. Variable v has number v + 1 of the row, so that both go by v.
 pub(crate) fn taken_column(row: &Row, updates: &[Row], column: usize) -> i64
     requires few { length updates.now ≤ 6 }
     requires column { column < 7 }

@@ -35,7 +35,7 @@ impl<'a, S: Source> View<'a, S> {
 }
 
 impl<'a, S: Source, K: RankKind> Ranked<'a, S, K> {
-    // The first test of the points' choices and lines that fails.
+    // The first test of the points' choices and lines that fails; an Option, as the search over moves answers.
     pub(crate) fn failing_choice(&self) -> Option<AdmitFault>
         requires { self.now.view.head.form ≡ SomeRun }
         ensures { result ≡ admission.first_failure (flat_map (admission.choice_trials (S.cells self.now.view.source.now) K.kind) (each (parts.points (parts.head (S.cells self.now.view.source.now))) (λ p. p))) }

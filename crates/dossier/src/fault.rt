@@ -2,7 +2,7 @@
 
 #[derive(Clone, Copy, Debug, PartialEq, Eq)]
 pub enum AdmitFault {
-    // another form or count of rank numbers than called for: those of the dossier
+    // another form or count of rank numbers than called for: those of the dossier, as the numbers that a refusal tells
     Other { form: usize, numbers: usize },
     // no edge from a state matches a letter
     NoEdge { state: usize, letter: usize },

@@ -22,6 +22,7 @@ fn count(cell: i32) -> u16
     cell.max(0) as u16
 }
 
+// The form that a number in its range tells. No TryFrom: with the range asked for there is no error to answer.
 fn form(cell: i32) -> Form
     requires low { 1 ≤ count_of cell }
     requires high { count_of cell ≤ 2 }

@@ -135,8 +135,7 @@ impl<'a> Reader<'a> {
         match digits {
             Digits::Two => self.digits(2),
             Digits::Four => self.digits(4),
-            Digits::Eight => self.digits(8),
-            Digits::Value => self.digits(8),
+            Digits::Eight | Digits::Value => self.digits(8),
         }
     }
 

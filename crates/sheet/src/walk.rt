@@ -80,7 +80,8 @@ pub(crate) trait Fields {
         Ok(())
     }
 
-    // The leading fields of a line; their values go to the front of `values` too, which is an array: there is no heap.
+    // The leading fields of a line; their values go to the front of `values` too. That is a slice, since the head line has more of
+    // them than the others: a vector of fixed room would be of another type for each.
     final fn leads(
         &mut self,
         lead: &[Field],

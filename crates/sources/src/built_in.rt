@@ -12,7 +12,7 @@ pub(crate) const RUN_DOWN: [i32; 37] = [
 ];
 
 // The built-in dossier, from a constant table.
-#[derive(Drop)]
+#[derive(Clone, Copy)]
 pub struct BuiltIn;
 
 impl Source for BuiltIn {

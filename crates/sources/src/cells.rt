@@ -5,9 +5,5 @@ ghost use Rattle.std.specs.Prelude.{◌≡◌, pos, slice_index_or};
 pub fn value_at(values: &[i32], index: usize) -> i32
     ensures { result ≡ slice_index_or values.now index (pos 0) }
 {
-    if index < values.len() {
-        values[index]
-    } else {
-        0
-    }
+    values.get(index).copied().unwrap_or(0)
 }

@@ -7,7 +7,7 @@ use crate::built_in::RUN_DOWN;
 use crate::cells::value_at;
 use crate::source::Source;
 
-#[derive(Drop)]
+#[derive(Clone, Copy)]
 pub struct Sheet<'a> {
     pub list: &'a [i32],
     ghost formed: { well_formed list.now ≡ true },

@@ -3,6 +3,7 @@ use crate::mistake::Mistake;
 use layout::form::Form;
 use std::fmt;
 
+// The counts that this program takes. The library has kinds of any count, so that such an enum would be the programs' alone there too.
 #[derive(Clone, Copy, Debug, PartialEq, Eq)]
 pub enum Ranks {
     OneNumber,

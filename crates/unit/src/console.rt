@@ -68,6 +68,7 @@ impl Console {
         Ok(Answer::Described(Description(stage.dossier().head())))
     }
 
+    // The count of numbers is a value here and a type of the kind.
     fn admit<'a>(&mut self, call: Call) -> Result<Answer, Failure<'a>> {
         match call.ranks {
             Ranks::OneNumber => self.admit_at(ByFirstDifference::<1>, call, Stage::OneNumber),

@@ -12,6 +12,7 @@ pub struct Misread {
 
 impl Error for Misread {}
 
+// By hand: a derived message cannot match on the fault and look at the text.
 impl fmt::Display for Misread {
     fn fmt<W: fmt::Write>(&self, f: &mut fmt::Formatter<W>) -> fmt::Result {
         let Refusal { first, second, .. } = Refusal::from(self.fault);
@@ -149,7 +150,7 @@ fn line_before(text: &[u8], byte: usize) -> &[u8] {
 }
 
 // How many digits the field has before which these bytes of its line stand: the widths of the layout, told again only to quote
-// a field that was already judged.
+// a field that was already judged; an enum of kinds would be made for these words alone.
 fn width(line: &[u8]) -> usize {
     match start(line, 2) {
         b"20" | b"31" | b"60" | b"61" => 4,

@@ -16,6 +16,7 @@ impl Source for Dossier {
 
     ghost formed = { dossier_formed };
 
+    // Each arm is another type of source, here and below, so that no pattern takes both.
     fn count(&self) -> usize {
         match self {
             Dossier::BuiltIn => BuiltIn.count(),

@@ -112,6 +112,7 @@ fn move_line(rows: &Rows, written: Move, number: usize, line: usize) -> Unmet {
     }
 }
 
+// This and the next say of a step and of an edge what differs in every word but the point.
 fn step_elsewhere(written: Move, point: Point) -> Unmet {
     Unmet::StepElsewhere {
         point,

@@ -1,8 +1,8 @@
-use Rattle.std.proofs.Common.{◌≡◌, ℕ, zero, suc, ◌+◌, ◌-◌, ◌*◌, ◌<◌, ◌≤◌, ⊎_elim, List, [], ◌∷◌, length, get_or, ℤ, pos, ◌+ℤ◌, ◌*ℤ◌, sym, ap, ◌∙◌, subst, ap₂, arith, w64, SFits, to_z, of_z, rules}
+use Rattle.std.proofs.Common.{◌≡◌, ℕ, suc, ◌+◌, ◌-◌, ◌*◌, ◌<◌, ⊎_elim, List, [], ◌∷◌, length, get_or, ℤ, pos, ◌+ℤ◌, ◌*ℤ◌, sym, ap, ◌∙◌, subst, ap₂, arith, w64, SFits, rules}
 use lib.IntN.{+ℤ_assoc, +ℤ_idr}
 use Rattle.std.proofs.lemmas.Int.{to_z-of_z}
 use Rattle.dossier.specs.Lines.{sums}
-use Rattle.certificate.specs.Arrays.{Within, row_of, rows_of, Multiplied}
+use Rattle.certificate.specs.Arrays.{Within, rows_of, Multiplied}
 use Rattle.certificate.proofs.Bounds.{product_within, sum_within, within_more}
 use Rattle.certificate.proofs.Weights.{first_factor, first_number, others}
 use Rattle.certificate.proofs.line.column_sums.Goals as goal
