@@ -48,6 +48,8 @@ fn time_admissions<S: Source + Drop>(
     Ok(())
 }
 
+// Reading and opening stand in the program of cases too: the two share no crate but the libraries, which read no file
+// and allocate no cells.
 fn time_sheet(
     rt: &(impl Files + Print + Eprint + Clock + AllocGlobal),
     form: Form,

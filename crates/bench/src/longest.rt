@@ -47,6 +47,7 @@ impl Maker {
         Ok(())
     }
 
+    // The kind of a line is passed as the number that it begins with, which is all that is done with it.
     fn rows(&mut self, kind: u32, count: u8) -> Result<(), AllocError> {
         for _ in 0..count {
             self.digits(2, kind)?;

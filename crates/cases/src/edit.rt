@@ -36,6 +36,7 @@ fn with_line(heap: Global, text: &[u8], number: usize, line: &[u8]) -> Result<Ve
     Ok(edited)
 }
 
+// Only as far as the text reaches: to copy a slice, both would have to be cut first.
 fn put(text: &mut Vec<u8>, at: usize, bytes: &[u8]) {
     for (slot, byte) in text.iter_mut().skip(at).zip(bytes) {
         *slot = *byte;

@@ -13,7 +13,7 @@ pub trait RankKind {
     fn numbers(&self) -> usize
         ensures { result ≡ kind.numbers };
 
-    // The fall row of a mode and an index, the zero row outside the modes. A mode is the number that the sheet has: 0, or which
+    // The fall row of a mode and an index. A mode is the number that the sheet has: 0, or which
     // number of a rank falls, from 1. The definitions of rank kinds take this number, so an enum would be turned back into it.
     fn fall(&self, mode: usize, index: usize) -> Fall
         ensures { result ≡ kind.fall mode index };

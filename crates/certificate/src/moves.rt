@@ -52,7 +52,8 @@ impl<'a, S: Source> View<'a, S> {
 }
 
 impl<'a, S: Source, K: RankKind> Ranked<'a, S, K> {
-    // What the lines of a move are to show. The hypotheses begin with the rows of its first point.
+    // What the lines of a move are to show. The hypotheses begin with the rows of its first point, which is asked here and in what is
+    // called: the fact is of a slice and a move together, so that a type for it would be these parameters once more.
     pub(crate) fn move_claims(&self, index: usize, hypotheses: &[Row]) -> Table
         requires inside { index < admission.moves (S.cells self.now.view.source.now) }
         requires begins { Begins (rows_of hypotheses.now) (admission.point_hypotheses (S.cells self.now.view.source.now) (admission.first_point (S.cells self.now.view.source.now) (admission.move_step (S.cells self.now.view.source.now) index) (admission.move_edge (S.cells self.now.view.source.now) index))) }

@@ -1,4 +1,6 @@
-// Where the parts of a dossier begin in its cells.
+// Where the parts of a dossier begin in its cells. That a number is that of a step, an edge, a point or a proposition is asked by
+// clauses, here and in what calls: a number with such a fact would be a type of its own for each dossier, made in every loop and
+// left at every sum.
 ghost use Rattle.std.specs.Prelude.{◌≡◌, ◌+◌, ◌*◌, ◌<◌, ◌≤◌};
 ghost use Rattle.layout.specs.Layout.{point_rows, conclusions};
 ghost use Rattle.dossier.specs.Admission.{moves};

@@ -6,7 +6,8 @@ ghost use Rattle.certificate.specs.Arrays.{row_of, RowWithin, seven, short, long
 use crate::line::product;
 
 // A constant and up to six coefficients. How large the numbers may be is asked by clauses: rows of three bounds stand in one table,
-// and a type for each bound would have to be left wherever a row is pushed.
+// and a type for each bound would have to be left wherever a row is pushed. All rows of a dossier have as many variables as its head
+// tells, which is passed where it is needed: a length in each row would say the same for all of them, and the definitions have none.
 pub(crate) type Row = [i64; 7];
 
 pub(crate) fn zero_row() -> Row
@@ -36,7 +37,8 @@ pub(crate) fn difference(old: &Row, new: &Row, less: u8) -> Row
     result
 }
 
-// A column of a row with each variable replaced by a row. Variable v has number v + 1 of the row, so that both go by v.
+// A column of a row with each variable replaced by a row. Variable v has number v + 1 of the row, so that both go by v, as the
+// definition does: a `zip` would begin at the second number.
 pub(crate) fn taken_column(row: &Row, updates: &[Row], column: usize) -> i64
     requires few { length updates.now ≤ 6 }
     requires column { column < 7 }

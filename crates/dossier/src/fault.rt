@@ -2,7 +2,8 @@
 
 #[derive(Clone, Copy, Debug, PartialEq, Eq)]
 pub enum AdmitFault {
-    // another form or count of rank numbers than called for: those of the dossier, as the numbers that a refusal tells
+    // another form or count of rank numbers than called for: those of the dossier, both as numbers, since they are the places
+    // of the refusal and the test that fails is defined with them
     Other { form: usize, numbers: usize },
     // no edge from a state matches a letter
     NoEdge { state: usize, letter: usize },

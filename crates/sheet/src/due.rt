@@ -115,7 +115,9 @@ fn number() -> Field
     }
 }
 
-// From here on the head itself is passed. As methods of a struct that holds it, each clause would name a field more.
+// From here on the head itself is passed. As methods of a struct that holds it, each clause would name a field more. How many rows a point
+// has, and how many lines show what a move concludes, are sums of two of its fields, here in 16 bits and in `certificate` in the
+// machine's word: a function for each would cast, and its name be no plainer than the sum.
 fn row(head: &Head, kind: u8) -> Frame
     ensures { result ≡ due.row (counts_of head.now) kind }
 {
@@ -367,7 +369,8 @@ fn group_cells(group: &Group) -> usize
     group.times as usize * once
 }
 
-// How many cells a head calls for. A `for`, since of a chain's `sum` it is known that it fits, and not that 13 more do.
+// How many cells a head calls for. A `for`: of a chain's `sum` it is known that it fits, and not that 13 more do; and the closure of
+// a `fold` has to add to any number.
 pub(crate) fn cells_due(head: &Head) -> usize
     ensures { result ≡ fields.cells_due (counts_of head.now) }
 {

@@ -61,6 +61,7 @@ fn number_of(digits: Digits, raw: u32) -> i64
     }
 }
 
+// Each method says that the text stays and where the reader stands behind what it took: no type can hold what a call leaves.
 impl<'a> Reader<'a> {
     pub(crate) fn new(text: &'a [u8]) -> Self
         ensures over { result.text ≡ text.entry }

@@ -25,7 +25,8 @@ impl<'a> Store<'a> {
         }
     }
 
-    // Where no cell is free, as in each check of a list, no value is looked at.
+    // Where no cell is free, as in each check of a list, no value is looked at. One by one: to copy a slice, both would have to be
+    // cut first, and what `put` promises be said again of many values.
     pub(crate) fn put_all(&mut self, values: &[i32])
         ensures { self.new ≡ puts self.old values.now }
     {

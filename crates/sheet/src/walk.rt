@@ -40,6 +40,10 @@ impl<'a> From<&'a Frame> for Line<'a> {
 
 // What supplies the fields; how lines are made of them is written once, for all that do. The store is passed beside it: as
 // one struct with the fields, the proof that the store's cells are those lent did not close, two structs deep.
+//
+// Each method says that the supply stays and where it stands afterwards, and the last two that the cells stay those lent: what a
+// call leaves is no fact of one value. Digits and range of a field go side by side: they come from two places, the field and what
+// stood before it.
 pub(crate) trait Fields {
     type Fault;
 
@@ -81,7 +85,8 @@ pub(crate) trait Fields {
     }
 
     // The leading fields of a line; their values go to the front of `values` too. That is a slice, since the head line has more of
-    // them than the others: a vector of fixed room would be of another type for each.
+    // them than the others: a vector of fixed room would be of another type for each. By the index, since a field is tested by the
+    // values before it.
     final fn leads(
         &mut self,
         lead: &[Field],

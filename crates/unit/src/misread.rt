@@ -90,7 +90,7 @@ impl<'a> Text<'a> {
     }
 
     fn found(self, place: Place) -> Found {
-        Found(self.0.get(place.byte).copied().unwrap_or(0))
+        Found(self.0.get(place.byte).copied())
     }
 
     fn kind(self, place: Place) -> Digits<'a> {
@@ -106,14 +106,14 @@ impl<'a> Text<'a> {
 
 // A byte, as a character in quotes where it can be printed.
 #[derive(Clone, Copy)]
-struct Found(u8);
+struct Found(Option<u8>);
 
 impl fmt::Display for Found {
     fn fmt<W: fmt::Write>(&self, f: &mut fmt::Formatter<W>) -> fmt::Result {
-        let byte = self.0;
-        match byte {
-            b' '..=b'~' => write!(f, "'{}'", char::from(byte)),
-            _ => write!(f, "0x{byte:02X}"),
+        match self.0 {
+            Some(byte @ b' '..=b'~') => write!(f, "'{}'", char::from(byte)),
+            Some(byte) => write!(f, "0x{byte:02X}"),
+            None => f.write_str("no byte"),
         }
     }
 }
