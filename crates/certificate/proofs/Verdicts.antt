@@ -74,5 +74,12 @@ module _ (kind : Kind) (cells : List ℤ) where
       pub shown_fails : (f : AdmitFault) → Err f ≡ passed (row_trials cells 0 (shown_rows cells)) → Err f ≡ admit_some_run kind cells
       shown_fails f r = some_rest (Err f) (first_decides (some_run_lines cells) (row_trials cells 0 (shown_rows cells)) all_choices f (some_fails (row_trials cells 0 (shown_rows cells)) f r))
 
-      pub choices_decide : Ok tt ≡ passed (row_trials cells 0 (shown_rows cells)) → (o : Option AdmitFault) → o ≡ first_failure all_choices → verdict (some_run_lines cells) o ≡ admit_some_run kind cells
-      choices_decide shown o e = some_rest (verdict (some_run_lines cells) o) (rest_decides (some_run_lines cells) (row_trials cells 0 (shown_rows cells)) all_choices (none_fails (row_trials cells 0 (shown_rows cells)) shown) _ (ap (verdict (some_run_lines cells)) e))
+      module _ (shown : Ok tt ≡ passed (row_trials cells 0 (shown_rows cells))) where
+        choices_decide : (o : Option AdmitFault) → first_failure all_choices ≡ o → verdict (some_run_lines cells) o ≡ admit_some_run kind cells
+        choices_decide o e = some_rest (verdict (some_run_lines cells) o) (rest_decides (some_run_lines cells) (row_trials cells 0 (shown_rows cells)) all_choices (none_fails (row_trials cells 0 (shown_rows cells)) shown) _ (ap (verdict (some_run_lines cells)) (sym e)))
+
+        pub choices_fail : (f : AdmitFault) → Err f ≡ passed all_choices → Err f ≡ admit_some_run kind cells
+        choices_fail f r = choices_decide (Some f) (some_fails all_choices f r)
+
+        pub choices_pass : Ok tt ≡ passed all_choices → Ok (some_run_lines cells) ≡ admit_some_run kind cells
+        choices_pass r = choices_decide None (none_fails all_choices r)

@@ -77,9 +77,7 @@ impl FormTests for SomeRun {
         view.shown_hold()?;
         let lines = view.points() * view.point_conclusions();
         let ranked = Ranked { view, kind };
-        match ranked.failing_choice() {
-            Some(fault) => Err(fault),
-            None => Ok(lines),
-        }
+        ranked.choices_hold()?;
+        Ok(lines)
     }
 }

@@ -35,15 +35,15 @@ impl<'a, S: Source> View<'a, S> {
 }
 
 impl<'a, S: Source, K: RankKind> Ranked<'a, S, K> {
-    // The first test of the points' choices and lines that fails; an Option, as the search over moves answers.
-    pub(crate) fn failing_choice(&self) -> Option<AdmitFault>
+    // The tests of the points' choices and lines, in order.
+    pub(crate) fn choices_hold(&self) -> Result<(), AdmitFault>
         requires { self.now.view.head.form ≡ SomeRun }
-        ensures { result ≡ admission.first_failure (flat_map (admission.choice_trials (S.cells self.now.view.source.now) K.kind) (each (parts.points (parts.head (S.cells self.now.view.source.now))) (λ p. p))) }
+        ensures { result ≡ passed (flat_map (admission.choice_trials (S.cells self.now.view.source.now) K.kind) (each (parts.points (parts.head (S.cells self.now.view.source.now))) (λ p. p))) }
     {
-        let mut failing = None;
+        let mut judged = Ok(());
         'search: for point in 0..self.view.points() {
             if let Err(fault) = self.view.choice_begins(point) {
-                failing = Some(fault);
+                judged = Err(fault);
                 break 'search;
             }
             let assumed = self.view.point_hypotheses(point);
@@ -52,11 +52,11 @@ impl<'a, S: Source, K: RankKind> Ranked<'a, S, K> {
             for (line, conclusion) in conclusions.as_slice().iter().enumerate() {
                 let at = self.view.point_line_at(point, line);
                 if !self.view.judge(at, hypotheses, conclusion) {
-                    failing = Some(AdmitFault::PointLine { point, line });
+                    judged = Err(AdmitFault::PointLine { point, line });
                     break 'search;
                 }
             }
         }
-        failing
+        judged
     }
 }

@@ -22,12 +22,11 @@ impl<'a, S: Source> View<'a, S> {
     fn matching_edge(&self, state: usize, letter: usize) -> Option<usize>
         ensures { result ≡ admission.edge_for (S.cells self.now.source.now) state letter }
     {
-        for edge in 0..self.head.edges as usize {
-            if self.edge_from(edge) == state && self.edge_matches(edge, letter) {
-                return Some(edge);
-            }
-        }
-        None
+        (0..self.head.edges as usize).find(
+            |edge|
+                requires { edge.now ≤ 12 }
+            { self.edge_from(*edge) == state && self.edge_matches(*edge, letter) },
+        )
     }
 
     // Every letter has an edge from a state.

@@ -7,11 +7,11 @@ use Rattle.dossier.specs.Dossier as parts
 use Rattle.dossier.proofs.Trials.{append_passes, append_fails}
 use Rattle.certificate.specs.Arrays.{rows_of}
 use Rattle.certificate.specs.Outcomes.{outcome}
-use Rattle.certificate.proofs.Failures.{none_fails, some_fails, joined_more, joined_first}
+use Rattle.certificate.proofs.Failures.{none_fails, some_fails, joined_more, joined_fails}
 use Rattle.certificate.proofs.Groups.{point_group, judgement}
 use Rattle.certificate.proofs.Numbered.{line_more, line_fails, lines_done}
 use Rattle.certificate.proofs.Tables.{counted}
-use Rattle.certificate.proofs.ranked.Ranked.failing_choice.Goals as goal
+use Rattle.certificate.proofs.ranked.Ranked.choices_hold.Goals as goal
 
 pub judge-requires : goal.judge-requires
 judge-requires g c =
@@ -57,7 +57,7 @@ returns-in-Err g c =
     let below : p < parts.points (parts.head cells) = omega (arith, c.points-point-end.ensures.value) in
     let kind = g.K.RankKind.kind in
     let fault = append_fails (admission.begin_trials cells p) (admission.point_trials cells kind p) c.in-Err.fault (some_fails (admission.begin_trials cells p) c.in-Err.fault c.in-Err.ensures) in
-    sym (joined_first (parts.points (parts.head cells)) (admission.choice_trials cells kind) p c.in-Err.fault below fault c.search.invariant.1)
+    joined_fails (parts.points (parts.head cells)) (admission.choice_trials cells kind) p c.in-Err.fault below (sym (ap outcome fault)) c.search.invariant.1
 
 pub returns-then-not-judge : goal.returns-then-not-judge
 returns-then-not-judge g c =
@@ -73,4 +73,4 @@ returns-then-not-judge g c =
     let kind = g.K.RankKind.kind in
     let begins = none_fails (admission.begin_trials cells p) c.in_default.ensures in
     let fault = line_fails cells (parts.point_line_at (parts.head cells) p) (point_rows (parts.head cells)) (admission.point_hypotheses cells p) (PointLine p) (admission.point_claims cells g.K.RankKind.kind p) c.loop-line.line j.inside (sym (c.if-not-judge.ensures ∙ j.judged)) c.loop-line.invariant.1 in
-    sym (joined_first (parts.points (parts.head cells)) (admission.choice_trials cells kind) p (PointLine p c.loop-line.line) below (append_passes (admission.begin_trials cells p) (admission.point_trials cells kind p) begins ∙ fault) c.search.invariant.1)
+    joined_fails (parts.points (parts.head cells)) (admission.choice_trials cells kind) p (PointLine p c.loop-line.line) below (sym (ap outcome (append_passes (admission.begin_trials cells p) (admission.point_trials cells kind p) begins ∙ fault))) c.search.invariant.1
