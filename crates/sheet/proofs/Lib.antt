@@ -5,4 +5,5 @@ pub mod Lent
 pub mod Nibbles
 pub mod Passing
 pub mod Runs
+pub mod Served
 pub mod Walking

@@ -369,14 +369,11 @@ fn group_cells(group: &Group) -> usize
     group.times as usize * once
 }
 
-// How many cells a head calls for. A `for`: of a chain's `sum` it is known that it fits, and not that 13 more do; and the closure of
-// a `fold` has to add to any number.
+// How many cells a head calls for.
 pub(crate) fn cells_due(head: &Head) -> usize
     ensures { result ≡ fields.cells_due (counts_of head.now) }
 {
-    let mut sum = 13;
-    for group in groups(head) {
-        sum += group_cells(&group);
-    }
-    sum
+    groups(head)
+        .iter()
+        .fold(13, |sum, group| sum + group_cells(group))
 }
