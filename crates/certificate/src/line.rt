@@ -39,8 +39,7 @@ fn column_sums(multipliers: &[i64], hypotheses: &[Row]) -> Row
     sums
 }
 
-// Whether a line holds: each coefficient agrees, and the constant suffices. The loop counts columns, since sums and conclusion
-// are compared column by column.
+// Whether a line holds: each coefficient agrees, and the constant suffices.
 pub(crate) fn line_holds(
     variables: usize,
     divisor: i64,
@@ -55,8 +54,8 @@ pub(crate) fn line_holds(
     ensures { result ≡ line_holds variables divisor multipliers.now (rows_of hypotheses.now) (row_of conclusion.now) }
 {
     let sums = column_sums(multipliers, hypotheses);
-    for j in 0..variables {
-        if product(divisor, conclusion[j + 1]) != sums[j + 1] {
+    for (sum, number) in sums[1..=variables].iter().zip(&conclusion[1..=variables]) {
+        if product(divisor, *number) != *sum {
             return false;
         }
     }

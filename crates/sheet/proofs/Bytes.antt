@@ -1,7 +1,7 @@
 -- A byte at a place, and the digits from there.
-use Rattle.std.proofs.Common.{◌≡◌, ℕ, suc, ◌+◌, ◌-◌, ◌*◌, ◌^◌, ◌<◌, ◌≤◌, List, [], ◌∷◌, ◌++◌, length, get_or, take, drop, Some, None, Ok, Err, Option, sym, refl, ap, ◌∙◌, add_assoc, pow-suc, add-one, arith, lit<, length-drop}
+use Rattle.std.proofs.Common.{◌≡◌, ℕ, suc, ◌+◌, ◌-◌, ◌*◌, ◌^◌, ◌<◌, ◌≤◌, List, [], ◌∷◌, ◌++◌, length, take, drop, Some, None, Ok, Err, Option, sym, refl, ap, ◌∙◌, add_assoc, pow-suc, add-one, arith, lit<, length-drop}
 use native.Mathlib.Nat.{pow-le-pow_right}
-use Rattle.std.proofs.lemmas.List.{drop-drop, drop_more, length-take-le, take-append-drop}
+use Rattle.std.proofs.lemmas.List.{length_push, append_assoc, drop-drop, length-take-le, take-append-drop}
 use Rattle.layout.specs.declared.fault.Place.{Place}
 use Rattle.layout.specs.declared.fault.FieldFault.{FieldFault}
 use Rattle.layout.specs.Reading.{nibble, digits, ahead, shift}
@@ -54,13 +54,14 @@ pub shifted_most : (i v d most : ℕ) → 15 * v + most ≤ most * 16 ^ i → d 
 shifted_most i v d most hv hd = rw (add-one, pow-suc) (omega arith)
 
 -- one byte of several that may all be digits
-pub part_more : (part more : List ℕ) (i v d : ℕ) (p : Place) → i < length part → nibble (get_or part i 0) ≡ Some d → digits (length part - i) v (drop i part ++ more) (ahead p i) ≡ digits (length part - (i + 1)) (v * 16 + d) (drop (i + 1) part ++ more) (ahead p (i + 1))
-part_more part more i v d p here e =
-    let left : length part - i ≡ suc (length part - (i + 1)) = omega arith in
-    ap (λ n. digits n v (drop i part ++ more) (ahead p i)) left
-    ∙ ap (λ l. digits (suc (length part - (i + 1))) v (l ++ more) (ahead p i)) (drop_more part i 0 here)
-    ∙ ap (λ o. next (shift v (get_or part i 0) (ahead p i) o) (λ w. digits (length part - (i + 1)) w (drop (i + 1) part ++ more) (ahead (ahead p i) 1))) e
-    ∙ ap (digits (length part - (i + 1)) (v * 16 + d) (drop (i + 1) part ++ more)) (ahead_more p i 1 refl refl)
+pub byte_more : (bytes more : List ℕ) (b n v d : ℕ) (p : Place) → nibble b ≡ Some d → ((k : ℕ) (rest : List ℕ) → digits (length bytes + k) 0 (bytes ++ rest) p ≡ digits k v rest (ahead p (length bytes))) → digits (length (bytes ++ b ∷ []) + n) 0 ((bytes ++ b ∷ []) ++ more) p ≡ digits n (v * 16 + d) more (ahead p (length (bytes ++ b ∷ [])))
+byte_more bytes more b n v d p e so_far =
+    let long : length (bytes ++ b ∷ []) ≡ length bytes + 1 = length_push bytes b in
+    ap (λ m. digits m 0 ((bytes ++ b ∷ []) ++ more) p) (omega (arith, long))
+    ∙ ap (λ l. digits (length bytes + suc n) 0 l p) (append_assoc bytes (b ∷ []) more)
+    ∙ so_far (suc n) (b ∷ more)
+    ∙ ap (λ o. next (shift v b (ahead p (length bytes)) o) (λ w. digits n w more (ahead (ahead p (length bytes)) 1))) e
+    ∙ ap (digits n (v * 16 + d) more) (ahead_more p (length bytes) 1 refl refl ∙ ap (ahead p) (sym long))
 
 -- the bytes from a place on, all digits
 module _ (text : List ℕ) (p : Place) (count v : ℕ) (inside : p.byte ≤ length text) (here : count ≤ length text - p.byte) (whole : Whole (take (p.byte + count - p.byte) (drop p.byte text)) (Some v)) where

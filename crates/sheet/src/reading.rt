@@ -42,10 +42,7 @@ fn all_digits(part: &[u8]) -> Option<u32>
     requires { length part.now ≤ 8 }
     ensures { Whole part.now result }
 {
-    let mut value = 0;
-    for b in part {
-        value = value * 16 + nibble(*b);
-    }
+    let value = part.iter().fold(0, |value, b| value * 16 + nibble(*b));
     if value < NO { Some(value as u32) } else { None }
 }
 

@@ -1,7 +1,7 @@
-use Rattle.std.proofs.Common.{◌≡◌, true}
+use Rattle.std.proofs.Common.{◌≡◌, true, length}
 use Rattle.dossier.specs.Lines.{coefficients_agree}
 use Rattle.certificate.specs.Arrays.{row_of, rows_of}
 use Rattle.certificate.proofs.line.line_holds.Given as goal
 
-abbrev pub invariant-loop-j : goal.invariant-loop-j
-invariant-loop-j l = coefficients_agree l.j l.divisor l.multipliers (rows_of l.hypotheses) (row_of l.conclusion) ≡ true
+abbrev pub invariant-loop-sum : goal.invariant-loop-sum
+invariant-loop-sum l = coefficients_agree (length l.yielded) l.divisor l.multipliers (rows_of l.hypotheses) (row_of l.conclusion) ≡ true
