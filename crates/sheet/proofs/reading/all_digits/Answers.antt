@@ -1,13 +1,13 @@
-use Rattle.std.proofs.Common.{◌≡◌, ℕ, ◌+◌, ◌*◌, ◌^◌, ◌<◌, ◌≤◌, List, [], ◌∷◌, ◌++◌, length, map, Bor, Iter, Some, unwrap_or, refl, ap, subst, sym, ◌∙◌, add-zero, zero-add, arith, rules}
+use Rattle.std.proofs.Common.{◌≡◌, ℕ, ◌+◌, ◌*◌, ◌^◌, ◌<◌, ◌≤◌, List, [], ◌∷◌, ◌++◌, length, unwrap_or, refl, ap, subst, sym, ◌∙◌, add-zero, zero-add, arith, rules}
 use Rattle.std.proofs.iter.Yields.{serves_by, gives_left, slice_gives, fronts}
 use Rattle.std.proofs.lemmas.Fn.{fold_over}
-use Rattle.std.proofs.lemmas.List.{length_push, length-append, length-map}
-use Rattle.std.specs.Iterator.{AlwaysYields}
+use Rattle.std.proofs.lemmas.List.{length_push}
 use Rattle.layout.specs.declared.fault.Place.{Place}
 use Rattle.layout.specs.Reading.{nibble, digits, ahead}
 use Rattle.layout.proofs.Hex.{digit_nibble}
 use Rattle.sheet.proofs.Bytes.{shifted_small, seven_digits, shifted_most, byte_more}
 use Rattle.sheet.proofs.Nibbles.{no, is_digit, at_most_no}
+use Rattle.sheet.proofs.Served.{fewer}
 use Rattle.sheet.proofs.reading.all_digits.Goals as goal
 
 -- no sum passes 64 bits
@@ -35,20 +35,14 @@ read_more bytes b value next is so_far = (
 none_read : (p : Place) (n : ℕ) (more : List ℕ) → digits (0 + n) 0 more p ≡ digits n 0 more (ahead p 0)
 none_read p n more = ap (λ m. digits m 0 more p) (zero-add n) ∙ ap (λ b. digits n 0 more (record { line = p.line; byte = b })) (sym (add-zero p.byte))
 
--- where an item comes, something was left
-left_over : (t u : Iter ℕ) (x : Bor ℕ) (more : List ℕ) → AlwaysYields fronts (λ z. z.now) t more → fronts t (Some x) u → 0 < length more
-left_over t u x [] a e = absurd (a x u e)
-left_over t u x (b ∷ more) a e = omega arith
-
 pub fold-value-requires-clause-callable : goal.fold-value-requires-clause-callable
 fold-value-requires-clause-callable c =
     serves_by _ (λ xs q. 15 * q.1 + no ≤ no * 16 ^ length xs)
     (λ xs q x w j r. let is : w.1 ≡ q.1 * 16 + unwrap_or (nibble x.now) no = search rules in bounded_more xs x x.now q.1 w.1 is j)
     fronts _ _ _ (omega arith)
     (λ xs t q x u y e j. let m = gives_left fronts (λ z. z.now) xs _ _ t (slice_gives c.iter.result) y in
-    let one = left_over t u x m.0 m.2 e in
-    let place : length xs < 8 = omega (arith, ap length m.1, length-append (map (λ (z : Bor ℕ). z.now) xs) m.0, length-map xs (λ (z : Bor ℕ). z.now), one, ap length c.iter.ensures.rest, c.requires) in
-    let small = seven_digits (length xs) place in
+    let place = fewer t u x e _ xs m.0 m.1 m.2 in
+    let small = seven_digits (length xs) (omega (arith, place, ap length c.iter.ensures.rest, c.requires)) in
     let top : q.1 < 576460752303423488 = omega (arith, small, j) in search rules)
 
 pub returns-then-value-lt-NO : goal.returns-then-value-lt-NO
