@@ -15,7 +15,8 @@ pub(crate) fn product(factor: i64, number: i64) -> i64
     factor * number
 }
 
-// Adds a hypothesis times its multiplier, in every column.
+// Adds a hypothesis times its multiplier, in every column. The row goes by the index: after a `zip` of `iter_mut` nothing is known of
+// what the sums are.
 fn add_scaled(sums: &mut Row, multiplier: i64, row: &Row)
     requires factor { Within 1048576 multiplier }
     requires numbers { RowWithin wide (row_of row.now) }
