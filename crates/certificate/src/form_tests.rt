@@ -11,6 +11,7 @@ ghost use Rattle.certificate.specs.Outcomes.{passed};
 use crate::admitted::{EveryRun, SomeRun};
 use crate::kind::RankKind;
 use crate::ranked::Ranked;
+use crate::table::Table;
 use crate::view::View;
 use dossier::fault::AdmitFault;
 use layout::form::Form;
@@ -56,10 +57,12 @@ impl FormTests for EveryRun {
         let view = View::of(source);
         view.called_for(Form::EveryRun, kind.numbers())?;
         view.watch_complete()?;
-        view.start_lines()?;
+        let mut assumed = Table::new();
+        let mut conclusions = Table::new();
+        view.start_lines(&mut assumed, &mut conclusions)?;
         let lines = view.rows_of_point() + view.moves() * view.conclusions_of();
         let ranked = Ranked { view, kind };
-        match ranked.failing_line() {
+        match ranked.failing_line(&mut assumed, &mut conclusions) {
             Some((number, line)) => Err(AdmitFault::MoveLine { number, line }),
             None => Ok(lines),
         }
@@ -74,10 +77,12 @@ impl FormTests for SomeRun {
     fn judge<S: Source, K: RankKind>(source: &S, kind: &K) -> Result<usize, AdmitFault> {
         let view = View::of(source);
         view.called_for(Form::SomeRun, kind.numbers())?;
-        view.shown_hold()?;
+        let mut assumed = Table::new();
+        let mut conclusions = Table::new();
+        view.shown_hold(&mut assumed)?;
         let lines = view.points() * view.point_conclusions();
         let ranked = Ranked { view, kind };
-        ranked.choices_hold()?;
+        ranked.choices_hold(&mut assumed, &mut conclusions)?;
         Ok(lines)
     }
 }
