@@ -1,5 +1,5 @@
 // The test of a proof line.
-ghost use Rattle.std.specs.Prelude.{◌≡◌, ℕ, ◌+◌, ◌*◌, ◌<◌, ◌≤◌, pos, ◌+ℤ◌, ◌*ℤ◌, ◌≤ℤ◌};
+ghost use Rattle.std.specs.Prelude.{◌≡◌, ℕ, ◌*◌, ◌<◌, ◌≤◌, pos, ◌+ℤ◌, ◌*ℤ◌, ◌≤ℤ◌};
 ghost use Rattle.dossier.specs.Lines.{sums, line_holds};
 ghost use Rattle.certificate.specs.Arrays.{row_of, rows_of, Within, RowWithin, Multiplied, wide};
 
@@ -15,46 +15,29 @@ pub(crate) fn product(factor: i64, number: i64) -> i64
     factor * number
 }
 
-// A sum with one product more.
-fn add_product(sum: i64, multiplier: i64, number: i64) -> i64
+// Adds a hypothesis times its multiplier, in the columns below a width. The row goes by the index: after a `zip` of `iter_mut` nothing is
+// known of what the sums are.
+fn add_scaled(sums: &mut Row, width: usize, multiplier: i64, row: &Row)
+    requires width { width ≤ 7 }
     requires factor { Within 1048576 multiplier }
-    requires number { Within wide number }
-    requires room { Within 612489549322387456 sum }
-    ensures { result ≡ sum +ℤ (multiplier *ℤ number) }
+    requires numbers { RowWithin wide (row_of row.now) }
+    requires room { (j : ℕ) → j < width → Within 612489549322387456 (row_of sums.old j) }
+    ensures { (j : ℕ) → j < width → row_of sums.new j ≡ row_of sums.old j +ℤ (multiplier *ℤ row_of row.now j) }
 {
-    sum + product(multiplier, number)
-}
-
-// The sums of multipliers times hypotheses in a column and the next. Two columns at a time: one would go through the hypotheses once more
-// for each, and all seven would be summed for a row of two numbers too.
-fn two_sums(column: usize, multipliers: &[i64], hypotheses: &[Row]) -> (i64, i64)
-    requires column { column < 6 }
-    requires sum { Multiplied multipliers.now hypotheses.now }
-    ensures first { result.0 ≡ sums multipliers.now (rows_of hypotheses.now) column }
-    ensures second { result.1 ≡ sums multipliers.now (rows_of hypotheses.now) (column + 1) }
-{
-    let mut first = 0;
-    let mut second = 0;
-    for (multiplier, row) in multipliers.iter().zip(hypotheses) {
-        first = add_product(first, *multiplier, row[column]);
-        second = add_product(second, *multiplier, row[column + 1]);
+    for (j, sum) in sums[..width].iter_mut().enumerate() {
+        *sum += product(multiplier, row[j]);
     }
-    (first, second)
 }
 
-// The sums in the columns below a width: a row's constant and the coefficients of its variables. The last pair begins at the last
-// column but one.
+// The sums of multipliers times hypotheses, in the columns below a width: a row's constant and the coefficients of its variables.
 fn column_sums(width: usize, multipliers: &[i64], hypotheses: &[Row]) -> Row
     requires width { width ≤ 7 }
     requires sum { Multiplied multipliers.now hypotheses.now }
     ensures { (j : ℕ) → j < width → row_of result j ≡ sums multipliers.now (rows_of hypotheses.now) j }
 {
     let mut sums = [0; 7];
-    for pair in 0..(width + 1) / 2 {
-        let column = (2 * pair).min(5);
-        let (first, second) = two_sums(column, multipliers, hypotheses);
-        sums[column] = first;
-        sums[column + 1] = second;
+    for (multiplier, row) in multipliers.iter().zip(hypotheses) {
+        add_scaled(&mut sums, width, *multiplier, row);
     }
     sums
 }
