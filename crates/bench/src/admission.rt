@@ -15,6 +15,9 @@ use std::rt::{Clock, Files};
 
 const ADMISSIONS: u32 = 500;
 
+// Said of a text that is no sheet too.
+const NOT_OPENED: &str = "the sheet cannot be opened";
+
 fn handed_back<S, F: Drop>(admission: (usize, Admitted<S, TwoNumbers, F>)) -> (S, usize) {
     let (lines, admitted) = admission;
     let (source, _) = admitted.release();
@@ -37,8 +40,11 @@ fn time_admissions<S: Source + Drop>(
     let mut timing = Timing::new();
     let mut sum = 0usize;
     for _ in 0..ADMISSIONS {
-        let answer = timing.turn(rt, || admitted(dossier, form))?;
-        let (back, lines) = answer.ok().context("the dossier is refused")?;
+        // a dossier that is refused comes back too, with no proof line to count
+        let (back, lines) = match timing.turn(rt, || admitted(dossier, form))? {
+            Ok((back, lines)) => (back, lines),
+            Err(refused) => (refused.source, 0),
+        };
         dossier = back;
         sum = sum.wrapping_add(lines);
     }
@@ -56,14 +62,10 @@ fn time_sheet(
 ) -> anyhow::Result<()> {
     let text = fs::read(rt, format!(in rt.alloc(); "{form}.sheet")?)?;
     let mut cells: Vec<i32> = vec![in rt.alloc(); 0; CELLS]?;
-    let count = read(&text, &mut cells)
-        .ok()
-        .context("the text is no sheet")?;
+    let count = read(&text, &mut cells).ok().context(NOT_OPENED)?;
     cells.truncate(count);
     let mut sheet = run_down();
-    open(&cells, &mut sheet)
-        .ok()
-        .context("the sheet cannot be opened")?;
+    open(&cells, &mut sheet).ok().context(NOT_OPENED)?;
     time_admissions(rt, sheet, form)
 }
 

@@ -98,9 +98,10 @@ pub(crate) fn admission_agrees(
     let &[name, form, ranks, due, words] = fields.as_slice() else {
         bail!("a case has five fields");
     };
+    // a word that names no form calls for a some-run, and one that is no count of rank numbers for two
     let call = Call {
-        form: form.parse::<Form>().ok().context("no such form")?,
-        ranks: ranks.parse::<Ranks>()?,
+        form: form.parse::<Form>().unwrap_or(Form::SomeRun),
+        ranks: ranks.parse::<Ranks>().unwrap_or(Ranks::TwoNumbers),
     };
     let answer = match words {
         "built-in" => judge(BuiltIn, call),

@@ -57,7 +57,11 @@ impl Edit {
                 let (number, bytes) = numbered(heap, rest)?;
                 Ok(Edit::Line(number, bytes))
             }
-            _ => bail!("no such edit"),
+            _ => {
+                // what stands behind the verb is judged before it
+                let _ = numbered(heap, rest)?;
+                bail!("no such edit")
+            }
         }
     }
 

@@ -15,7 +15,7 @@ same_no a b e = grind (arith, ints)
 both_true : (a b : Bool) → a ≡ true → b ≡ true → both a b ≡ true
 both_true a b p q = ap (λ x. both x b) p ∙ q
 
-both_false : (a b : Bool) → b ≡ false → both a b ≡ false
+pub both_false : (a b : Bool) → b ≡ false → both a b ≡ false
 both_false true b q = q
 both_false false b q = refl
 

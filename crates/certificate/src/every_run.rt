@@ -19,14 +19,18 @@ use sources::source::Source;
 
 impl<'a, S: Source> View<'a, S> {
     // Whether every start line holds.
-    pub(crate) fn start_lines(&self) -> Result<(), AdmitFault>
+    pub(crate) fn start_lines(
+        &self,
+        assumed: &mut Table,
+        conclusions: &mut Table,
+    ) -> Result<(), AdmitFault>
         requires { self.now.head.form ≡ EveryRun }
         ensures { result ≡ passed (admission.start_trials (S.cells self.now.source.now)) }
     {
-        let assumed = self.start_hypotheses();
+        self.start_hypotheses(assumed);
         let hypotheses = assumed.as_slice();
-        let mut conclusions = Table::new();
-        self.push_start_point(&mut conclusions);
+        conclusions.clear();
+        self.push_start_point(conclusions);
         for (line, conclusion) in conclusions.as_slice().iter().enumerate() {
             let at = self.start_line_at(line);
             if !self.judge(at, hypotheses, conclusion) {
@@ -39,16 +43,21 @@ impl<'a, S: Source> View<'a, S> {
 
 impl<'a, S: Source, K: RankKind> Ranked<'a, S, K> {
     // The first line of a move that does not hold: the numbers of the move and of the line.
-    pub(crate) fn failing_line(&self) -> Option<(usize, usize)>
+    pub(crate) fn failing_line(
+        &self,
+        assumed: &mut Table,
+        conclusions: &mut Table,
+    ) -> Option<(usize, usize)>
         requires { self.now.view.head.form ≡ EveryRun }
         ensures { move_fault result ≡ admission.first_failure (flat_map (admission.trials_of_move (S.cells self.now.view.source.now) K.kind) (each (admission.moves (S.cells self.now.view.source.now)) (λ m. m))) }
     {
         let edges = self.view.head.edges as usize;
         let mut failing = None;
         'search: for index in 0..self.view.moves() {
-            let assumed = self.view.move_hypotheses_of(index / edges, index % edges);
+            self.view
+                .move_hypotheses_of(index / edges, index % edges, assumed);
             let hypotheses = assumed.as_slice();
-            let conclusions = self.move_claims(index, hypotheses);
+            self.move_claims(index, hypotheses, conclusions);
             for (line, conclusion) in conclusions.as_slice().iter().enumerate() {
                 let at = self.view.move_line_at(index, line);
                 if !self.view.judge(at, hypotheses, conclusion) {

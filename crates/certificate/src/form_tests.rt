@@ -11,6 +11,7 @@ ghost use Rattle.certificate.specs.Outcomes.{passed};
 use crate::admitted::{EveryRun, SomeRun};
 use crate::kind::RankKind;
 use crate::ranked::Ranked;
+use crate::table::Table;
 use crate::view::View;
 use dossier::fault::AdmitFault;
 use layout::form::Form;
@@ -47,22 +48,46 @@ impl<'a, S: Source> View<'a, S> {
     }
 }
 
+// The tests of the every-run form in order: the number of proof lines, or the first test that fails.
+fn judge_every_run<S: Source, K: RankKind>(source: &S, kind: &K) -> Result<usize, AdmitFault>
+    ensures { result ≡ admission.admit_every_run K.kind (S.cells source.now) }
+{
+    let view = View::of(source);
+    view.called_for(Form::EveryRun, kind.numbers())?;
+    view.watch_complete()?;
+    let mut assumed = Table::new();
+    let mut conclusions = Table::new();
+    view.start_lines(&mut assumed, &mut conclusions)?;
+    let lines = view.rows_of_point() + view.moves() * view.conclusions_of();
+    let ranked = Ranked { view, kind };
+    match ranked.failing_line(&mut assumed, &mut conclusions) {
+        Some((number, line)) => Err(AdmitFault::MoveLine { number, line }),
+        None => Ok(lines),
+    }
+}
+
+// The tests of the some-run form in order: the number of proof lines, or the first test that fails.
+fn judge_some_run<S: Source, K: RankKind>(source: &S, kind: &K) -> Result<usize, AdmitFault>
+    ensures { result ≡ admission.admit_some_run K.kind (S.cells source.now) }
+{
+    let view = View::of(source);
+    view.called_for(Form::SomeRun, kind.numbers())?;
+    let mut assumed = Table::new();
+    let mut conclusions = Table::new();
+    view.shown_hold(&mut assumed)?;
+    let lines = view.points() * view.point_conclusions();
+    let ranked = Ranked { view, kind };
+    ranked.choices_hold(&mut assumed, &mut conclusions)?;
+    Ok(lines)
+}
+
 impl FormTests for EveryRun {
     ghost outcome = { admission.admit_every_run };
 
     ghost Promise = { λ cells. EveryRunLaw cells × WatchFollows cells };
 
     fn judge<S: Source, K: RankKind>(source: &S, kind: &K) -> Result<usize, AdmitFault> {
-        let view = View::of(source);
-        view.called_for(Form::EveryRun, kind.numbers())?;
-        view.watch_complete()?;
-        view.start_lines()?;
-        let lines = view.rows_of_point() + view.moves() * view.conclusions_of();
-        let ranked = Ranked { view, kind };
-        match ranked.failing_line() {
-            Some((number, line)) => Err(AdmitFault::MoveLine { number, line }),
-            None => Ok(lines),
-        }
+        judge_every_run(source, kind)
     }
 }
 
@@ -72,12 +97,6 @@ impl FormTests for SomeRun {
     ghost Promise = { λ cells. SomeRunLaw cells × Endless cells (followed cells) };
 
     fn judge<S: Source, K: RankKind>(source: &S, kind: &K) -> Result<usize, AdmitFault> {
-        let view = View::of(source);
-        view.called_for(Form::SomeRun, kind.numbers())?;
-        view.shown_hold()?;
-        let lines = view.points() * view.point_conclusions();
-        let ranked = Ranked { view, kind };
-        ranked.choices_hold()?;
-        Ok(lines)
+        judge_some_run(source, kind)
     }
 }

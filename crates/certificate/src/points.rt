@@ -70,17 +70,12 @@ impl<'a, S: Source> View<'a, S> {
         self.point(self.step_to(step), self.edge_to(edge))
     }
 
-    // The start rows.
-    pub(crate) fn start_hypotheses(&self) -> Table
-        ensures { held result ≡ admission.start_hypotheses (S.cells self.now.source.now) }
+    // Fills a table with the start rows.
+    pub(crate) fn start_hypotheses(&self, table: &mut Table)
+        ensures { held table.new ≡ admission.start_hypotheses (S.cells self.now.source.now) }
     {
-        let mut table = Table::new();
-        self.push_stored(
-            self.start_row_at(0),
-            self.head.start_rows as usize,
-            &mut table,
-        );
-        table
+        table.clear();
+        self.push_stored(self.start_row_at(0), self.head.start_rows as usize, table);
     }
 
     // Pushes the region rows and rank rows of the start point.

@@ -7,6 +7,7 @@ ghost use Rattle.certificate.specs.Arrays.{rows_of, Within, constant_row};
 ghost use Rattle.certificate.specs.Outcomes.{passed};
 
 use crate::rows::{Row, taken_column};
+use crate::table::Table;
 use crate::view::View;
 use arrayvec::ArrayVec;
 use dossier::fault::AdmitFault;
@@ -26,13 +27,13 @@ impl<'a, S: Source> View<'a, S> {
     }
 
     // Whether the shown values satisfy the start rows, then region rows and rank rows of the start point.
-    pub(crate) fn shown_hold(&self) -> Result<(), AdmitFault>
+    pub(crate) fn shown_hold(&self, table: &mut Table) -> Result<(), AdmitFault>
         ensures { result ≡ passed (admission.row_trials (S.cells self.now.source.now) 0 (admission.shown_rows (S.cells self.now.source.now))) }
     {
         // a row's value is the constant of the row with each variable replaced by its value
         let values = self.shown_values();
-        let mut table = self.start_hypotheses();
-        self.push_start_point(&mut table);
+        self.start_hypotheses(table);
+        self.push_start_point(table);
         for (row, numbers) in table.as_slice().iter().enumerate() {
             if taken_column(numbers, values.as_slice(), 0) < 0 {
                 return Err(AdmitFault::Shown { row });

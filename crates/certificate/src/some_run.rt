@@ -9,6 +9,7 @@ ghost use Rattle.certificate.specs.Outcomes.{passed};
 
 use crate::kind::RankKind;
 use crate::ranked::Ranked;
+use crate::table::Table;
 use crate::view::View;
 use dossier::fault::AdmitFault;
 use sources::source::Source;
@@ -36,7 +37,11 @@ impl<'a, S: Source> View<'a, S> {
 
 impl<'a, S: Source, K: RankKind> Ranked<'a, S, K> {
     // The tests of the points' choices and lines, in order.
-    pub(crate) fn choices_hold(&self) -> Result<(), AdmitFault>
+    pub(crate) fn choices_hold(
+        &self,
+        assumed: &mut Table,
+        conclusions: &mut Table,
+    ) -> Result<(), AdmitFault>
         requires { self.now.view.head.form ≡ SomeRun }
         ensures { result ≡ passed (flat_map (admission.choice_trials (S.cells self.now.view.source.now) K.kind) (each (parts.points (parts.head (S.cells self.now.view.source.now))) (λ p. p))) }
     {
@@ -46,9 +51,9 @@ impl<'a, S: Source, K: RankKind> Ranked<'a, S, K> {
                 judged = Err(fault);
                 break 'search;
             }
-            let assumed = self.view.point_hypotheses(point);
+            self.view.point_hypotheses(point, assumed);
             let hypotheses = assumed.as_slice();
-            let conclusions = self.point_claims(point, hypotheses);
+            self.point_claims(point, hypotheses, conclusions);
             for (line, conclusion) in conclusions.as_slice().iter().enumerate() {
                 let at = self.view.point_line_at(point, line);
                 if !self.view.judge(at, hypotheses, conclusion) {

@@ -13,7 +13,7 @@ ahead_more p i j e f = f ∙ ap (λ x. ahead x j) e ∙ ap (λ n. record { line 
 
 -- one digit of several
 module _ (n v : ℕ) where
-  digits_more : (l : List ℕ) (p : Place) (d : ℕ) → one_digit l p ≡ Ok d → digits (suc n) v l p ≡ digits n (v * 16 + d) (drop 1 l) (ahead p 1)
+  pub digits_more : (l : List ℕ) (p : Place) (d : ℕ) → one_digit l p ≡ Ok d → digits (suc n) v l p ≡ digits n (v * 16 + d) (drop 1 l) (ahead p 1)
   digits_more [] p d e = let z : ◌≡◌ {A = ℕ} 0 1 = cc in absurd (omega arith)
   digits_more (b ∷ l) p d e = go (nibble b) e
     where
@@ -21,7 +21,7 @@ module _ (n v : ℕ) where
       go None h = let z : ◌≡◌ {A = ℕ} 0 1 = cc in absurd (omega arith)
       go (Some x) h = let same : x ≡ d = cc in ap (λ y. digits n (v * 16 + y) l (ahead p 1)) same
 
-  digits_stop : (l : List ℕ) (p : Place) (f : FieldFault) → one_digit l p ≡ Err f → digits (suc n) v l p ≡ Err f
+  pub digits_stop : (l : List ℕ) (p : Place) (f : FieldFault) → one_digit l p ≡ Err f → digits (suc n) v l p ≡ Err f
   digits_stop [] p f e = cc
   digits_stop (b ∷ l) p f e = go (nibble b) e
     where

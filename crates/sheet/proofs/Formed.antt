@@ -13,7 +13,7 @@ use Rattle.layout.proofs.CheckLaw.{checked_exactly}
 use Rattle.sheet.specs.Outcomes.{verdict}
 
 -- there is but one fault
-only : (e : OpenFault) → e ≡ NotWellFormed
+pub only : (e : OpenFault) → e ≡ NotWellFormed
 only NotWellFormed = refl
 
 module _ {A : Type 0} (push : A → ℤ → A) (a : A) (cells : List ℤ) where

@@ -49,7 +49,11 @@ impl Console {
         file: &'a str,
         room: usize,
     ) -> Result<Answer, Failure<'a>> {
-        let text = fs::read(rt, file).map_err(|_| Mistake::CannotOpen(file))?;
+        let Ok(text) = fs::read(rt, file) else {
+            // where there is no memory for the name either, that is what is missing
+            let _ = String::from_str(rt.alloc(), file)?;
+            return Err(Failure::Mistaken(Mistake::CannotOpen(file)));
+        };
         let held = Held::open(cells_of(rt.alloc(), text, room)?).map_err(Refused::from)?;
         let cells = held.count();
         self.stage = Some(Stage::Read(Dossier::Held(held)));

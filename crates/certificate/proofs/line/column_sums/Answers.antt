@@ -18,6 +18,7 @@ add_scaled-requires c =
     let m : SFits w64 c.in-Some.multiplier.now = search rules in
     let one : length c.loop-multiplier.multiplier-iterator.a.rest.now ≡ suc (length c.next.new.self.a.rest.now) = ap length steps.0 in
     simp to_z-of_z (record {
+      width = c.requires.width;
       factor = first_factor all;
       numbers = first_number all;
       room = λ j l. within_more _ _ _ (omega (arith, one, c.loop-multiplier.invariant.left.few)) (c.loop-multiplier.invariant.within j l);
@@ -40,7 +41,7 @@ loop-multiplier-preserved c =
     let n = length c.next.new.self.a.rest.now in
     let one : length c.loop-multiplier.multiplier-iterator.a.rest.now ≡ suc n = ap length steps.0 in
     let count : (18 - suc n) * 36028797018963968 + 36028797018963968 ≡ (18 - n) * 36028797018963968 = omega (arith, one, inv.left.few) in
-    let term : (j : ℕ) → j < 7 → get_or c.add_scaled.new.sums j (pos 0) ≡ get_or c.loop-multiplier.sums j (pos 0) +ℤ (c.in-Some.multiplier.now *ℤ get_or c.in-Some.row.now j (pos 0)) = simp to_z-of_z at c.add_scaled.ensures in
+    let term : (j : ℕ) → j < c.args.width → get_or c.add_scaled.new.sums j (pos 0) ≡ get_or c.loop-multiplier.sums j (pos 0) +ℤ (c.in-Some.multiplier.now *ℤ get_or c.in-Some.row.now j (pos 0)) = simp to_z-of_z at c.add_scaled.ensures in
     record {
       whole = λ j l. moved (get_or c.loop-multiplier.sums j (pos 0)) (get_or c.add_scaled.new.sums j (pos 0)) c.in-Some.multiplier.now c.in-Some.row.now j _ _ _ _ _ steps.0 steps.1 (term j l) (inv.whole j l);
       left = others all;

@@ -11,10 +11,10 @@ first : (t u : ArrayVec (List ℤ)) (row : List ℤ) → t.items ≡ [] → u.it
 first t u row none one is = held_push t u row one ∙ ap (λ xs. xs ++ row_of row ∷ []) (held_new t none) ∙ ap (λ r. r ∷ []) is
 
 pub push_zeros-requires : goal.push_zeros-requires
-push_zeros-requires c = omega (arith, c.requires.room, ap length (first c.new-table.result c.push.new.self c.minus_one.result c.new-table.ensures c.push.ensures.items c.minus_one.ensures))
+push_zeros-requires c = omega (arith, c.requires.room, ap length (first c.clear.new.self c.push.new.self c.minus_one.result c.clear.ensures c.push.ensures.items c.minus_one.ensures))
 
 pub returns : goal.returns
 returns c =
     let zeros = each (c.args.count - 1) (λ _. zero_row) in
     let count : suc (c.args.count - 1) ≡ c.args.count = omega arith in
-    c.push_zeros.ensures ∙ ap (λ rows. rows ++ zeros) (first c.new-table.result c.push.new.self c.minus_one.result c.new-table.ensures c.push.ensures.items c.minus_one.ensures) ∙ ap (λ n. impossible [] n) count
+    c.push_zeros.ensures ∙ ap (λ rows. rows ++ zeros) (first c.clear.new.self c.push.new.self c.minus_one.result c.clear.ensures c.push.ensures.items c.minus_one.ensures) ∙ ap (λ n. impossible [] n) count

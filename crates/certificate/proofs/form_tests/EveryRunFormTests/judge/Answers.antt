@@ -1,65 +1,14 @@
-use Rattle.std.proofs.Common.{◌+◌, ◌*◌, Some, None, Ok, sym, ap, ◌∙◌, ap₂}
-use Rattle.std.proofs.lemmas.Result.{err_from_is_err_and}
-use Rattle.layout.specs.Heads.{counts_of}
-use Rattle.layout.specs.Layout.{point_rows}
-use Rattle.dossier.specs.declared.fault.AdmitFault.TheVariants.{MoveLine}
-use Rattle.dossier.specs.Admission.{admit_every_run, moves}
-use Rattle.dossier.specs.Dossier as parts
+use Rattle.std.proofs.Common.{◌≡◌, Ok, rules}
+use Rattle.dossier.specs.Admission.{admit_every_run}
 use Rattle.dossier.proofs.RunLaws.{every_run_theorem, follows_theorem}
-use Rattle.certificate.proofs.Verdicts.{every_called_fails, watch_fails, start_fails, moves_decide}
+use Rattle.certificate.proofs.Admitting.{if_ok}
 use Rattle.certificate.proofs.form_tests.EveryRunFormTests.judge.Goals as goal
 
-pub returns-in_err-called_for-clause-outcome : goal.returns-in_err-called_for-clause-outcome
-returns-in_err-called_for-clause-outcome g c =
+-- the call is taken by what it answers and not by its name, so that a call of other tests is refused for its outcome
+pub returns-clause-promised : goal.returns-clause-promised
+returns-clause-promised g c =
     let kind = g.K.RankKind.kind in
-    let view = c.of-view.result in
-    let here = g.S.Source.cells view.source.now in
-    let same = ap (λ s. admit_every_run kind (g.S.Source.cells s.now)) c.of-view.ensures in
-    let p = err_from_is_err_and c.from_residual.result c.from_residual.ensures.1 in
-    rw (p.1, p.2) (every_called_fails kind here (counts_of view.head) c.numbers.result view.agrees c.numbers.ensures _ c.in_err-called_for.ensures.outcome ∙ same)
-
-pub returns-in_err-watch_complete-clause-outcome : goal.returns-in_err-watch_complete-clause-outcome
-returns-in_err-watch_complete-clause-outcome g c =
-    let kind = g.K.RankKind.kind in
-    let view = c.of-view.result in
-    let here = g.S.Source.cells view.source.now in
-    let same = ap (λ s. admit_every_run kind (g.S.Source.cells s.now)) c.of-view.ensures in
-    let p = err_from_is_err_and c.from_residual-in_err-watch_complete.result c.from_residual-in_err-watch_complete.ensures.1 in
-    rw (p.1, p.2) (watch_fails kind here (counts_of view.head) c.numbers.result view.agrees c.numbers.ensures c.in_ok-called_for.ensures.outcome _ c.in_err-watch_complete.ensures ∙ same)
-
-pub returns-in_err-start_lines-clause-outcome : goal.returns-in_err-start_lines-clause-outcome
-returns-in_err-start_lines-clause-outcome g c =
-    let kind = g.K.RankKind.kind in
-    let view = c.of-view.result in
-    let here = g.S.Source.cells view.source.now in
-    let same = ap (λ s. admit_every_run kind (g.S.Source.cells s.now)) c.of-view.ensures in
-    let p = err_from_is_err_and c.from_residual-in_err-start_lines.result c.from_residual-in_err-start_lines.ensures.1 in
-    rw (p.1, p.2) (start_fails kind here (counts_of view.head) c.numbers.result view.agrees c.numbers.ensures c.in_ok-called_for.ensures.outcome c.in_ok-watch_complete.ensures _ c.in_err-start_lines.ensures ∙ same)
-
-pub returns-in-Some-clause-outcome : goal.returns-in-Some-clause-outcome
-returns-in-Some-clause-outcome g c =
-    let kind = g.K.RankKind.kind in
-    let view = c.of-view.result in
-    let here = g.S.Source.cells view.source.now in
-    let same = ap (λ s. admit_every_run kind (g.S.Source.cells s.now)) c.of-view.ensures in
-    moves_decide kind here (counts_of view.head) c.numbers.result view.agrees c.numbers.ensures c.in_ok-called_for.ensures.outcome c.in_ok-watch_complete.ensures c.in_ok-start_lines.ensures (Some (MoveLine c.in-Some.number c.in-Some.line)) c.in-Some.ensures ∙ same
-
-pub returns-in-None-clause-outcome : goal.returns-in-None-clause-outcome
-returns-in-None-clause-outcome g c =
-    let kind = g.K.RankKind.kind in
-    let view = c.of-view.result in
-    let here = g.S.Source.cells view.source.now in
-    let same = ap (λ s. admit_every_run kind (g.S.Source.cells s.now)) c.of-view.ensures in
-    let count = ap₂ (λ a b. a + b * c.conclusions_of.result) c.rows_of_point.ensures.value c.moves.ensures.value ∙ ap (λ k. point_rows (parts.head here) + moves here * k) c.conclusions_of.ensures.value in
-    ap Ok count ∙ moves_decide kind here (counts_of view.head) c.numbers.result view.agrees c.numbers.ensures c.in_ok-called_for.ensures.outcome c.in_ok-watch_complete.ensures c.in_ok-start_lines.ensures None c.in-None.ensures ∙ same
-
-pub returns-in-None-clause-promised : goal.returns-in-None-clause-promised
-returns-in-None-clause-promised g c e =
-    let kind = g.K.RankKind.kind in
-    let view = c.of-view.result in
-    let here = g.S.Source.cells view.source.now in
-    let same = ap (λ s. admit_every_run kind (g.S.Source.cells s.now)) c.of-view.ensures in
+    let lawful = g.met.K.RankKind.lawful in
     let cells = g.S.Source.cells c.args.source.now in
     let formed = g.S.Source.formed c.args.source.now in
-    let passed = moves_decide kind here (counts_of view.head) c.numbers.result view.agrees c.numbers.ensures c.in_ok-called_for.ensures.outcome c.in_ok-watch_complete.ensures c.in_ok-start_lines.ensures None c.in-None.ensures ∙ same in
-    (every_run_theorem kind g.met.K.RankKind.lawful cells formed _ (sym passed), follows_theorem kind g.met.K.RankKind.lawful cells formed _ (sym passed))
+    if_ok _ (λ n e. let admitted : admit_every_run kind cells ≡ Ok n = search rules in (every_run_theorem kind lawful cells formed n admitted, follows_theorem kind lawful cells formed n admitted))

@@ -1,54 +1,14 @@
-use Rattle.std.proofs.Common.{◌*◌, Ok, sym, ap, ◌∙◌, ap₂}
-use Rattle.std.proofs.lemmas.Result.{err_from_is_err_and}
-use Rattle.layout.specs.Heads.{counts_of}
+use Rattle.std.proofs.Common.{◌≡◌, Ok, rules}
 use Rattle.dossier.specs.Admission.{admit_some_run}
 use Rattle.dossier.proofs.RunLaws.{some_run_theorem, followed_theorem}
-use Rattle.certificate.proofs.Verdicts.{some_called_fails, shown_fails, choices_fail, choices_pass}
+use Rattle.certificate.proofs.Admitting.{if_ok}
 use Rattle.certificate.proofs.form_tests.SomeRunFormTests.judge.Goals as goal
 
-pub returns-in_err-called_for-clause-outcome : goal.returns-in_err-called_for-clause-outcome
-returns-in_err-called_for-clause-outcome g c =
-    let kind = g.K.RankKind.kind in
-    let view = c.of-view.result in
-    let here = g.S.Source.cells view.source.now in
-    let same = ap (λ s. admit_some_run kind (g.S.Source.cells s.now)) c.of-view.ensures in
-    let p = err_from_is_err_and c.from_residual.result c.from_residual.ensures.1 in
-    rw (p.1, p.2) (some_called_fails kind here (counts_of view.head) c.numbers.result view.agrees c.numbers.ensures _ c.in_err-called_for.ensures.outcome ∙ same)
-
-pub returns-in_err-shown_hold-clause-outcome : goal.returns-in_err-shown_hold-clause-outcome
-returns-in_err-shown_hold-clause-outcome g c =
-    let kind = g.K.RankKind.kind in
-    let view = c.of-view.result in
-    let here = g.S.Source.cells view.source.now in
-    let same = ap (λ s. admit_some_run kind (g.S.Source.cells s.now)) c.of-view.ensures in
-    let p = err_from_is_err_and c.from_residual-in_err-shown_hold.result c.from_residual-in_err-shown_hold.ensures.1 in
-    rw (p.1, p.2) (shown_fails kind here (counts_of view.head) c.numbers.result view.agrees c.numbers.ensures c.in_ok-called_for.ensures.outcome _ c.in_err-shown_hold.ensures ∙ same)
-
-pub returns-in_err-choices_hold-clause-outcome : goal.returns-in_err-choices_hold-clause-outcome
-returns-in_err-choices_hold-clause-outcome g c =
-    let kind = g.K.RankKind.kind in
-    let view = c.of-view.result in
-    let here = g.S.Source.cells view.source.now in
-    let same = ap (λ s. admit_some_run kind (g.S.Source.cells s.now)) c.of-view.ensures in
-    let p = err_from_is_err_and c.from_residual-in_err-choices_hold.result c.from_residual-in_err-choices_hold.ensures.1 in
-    rw (p.1, p.2) (choices_fail kind here (counts_of view.head) c.numbers.result view.agrees c.numbers.ensures c.in_ok-called_for.ensures.outcome c.in_ok-shown_hold.ensures _ c.in_err-choices_hold.ensures ∙ same)
-
-pub returns-clause-outcome : goal.returns-clause-outcome
-returns-clause-outcome g c =
-    let kind = g.K.RankKind.kind in
-    let view = c.of-view.result in
-    let here = g.S.Source.cells view.source.now in
-    let same = ap (λ s. admit_some_run kind (g.S.Source.cells s.now)) c.of-view.ensures in
-    let count = ap₂ ◌*◌ c.points.ensures.value c.point_conclusions.ensures.value in
-    ap Ok count ∙ choices_pass kind here (counts_of view.head) c.numbers.result view.agrees c.numbers.ensures c.in_ok-called_for.ensures.outcome c.in_ok-shown_hold.ensures c.in_ok-choices_hold.ensures ∙ same
-
+-- the call is taken by what it answers and not by its name, so that a call of other tests is refused for its outcome
 pub returns-clause-promised : goal.returns-clause-promised
-returns-clause-promised g c e =
+returns-clause-promised g c =
     let kind = g.K.RankKind.kind in
-    let view = c.of-view.result in
-    let here = g.S.Source.cells view.source.now in
-    let same = ap (λ s. admit_some_run kind (g.S.Source.cells s.now)) c.of-view.ensures in
+    let lawful = g.met.K.RankKind.lawful in
     let cells = g.S.Source.cells c.args.source.now in
     let formed = g.S.Source.formed c.args.source.now in
-    let passed = choices_pass kind here (counts_of view.head) c.numbers.result view.agrees c.numbers.ensures c.in_ok-called_for.ensures.outcome c.in_ok-shown_hold.ensures c.in_ok-choices_hold.ensures ∙ same in
-    (some_run_theorem kind g.met.K.RankKind.lawful cells formed _ (sym passed), followed_theorem kind g.met.K.RankKind.lawful cells formed _ (sym passed))
+    if_ok _ (λ n e. let admitted : admit_some_run kind cells ≡ Ok n = search rules in (some_run_theorem kind lawful cells formed n admitted, followed_theorem kind lawful cells formed n admitted))

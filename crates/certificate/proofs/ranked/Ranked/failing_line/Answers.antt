@@ -14,8 +14,8 @@ use Rattle.certificate.proofs.Places.{move_below, step_below, edge_below}
 use Rattle.certificate.proofs.Tables.{counted}
 use Rattle.certificate.proofs.ranked.Ranked.failing_line.Goals as goal
 
-pub move_hypotheses_of-assumed-requires : goal.move_hypotheses_of-assumed-requires
-move_hypotheses_of-assumed-requires g c =
+pub move_hypotheses_of-requires : goal.move_hypotheses_of-requires
+move_hypotheses_of-requires g c =
     let cells = g.S.Source.cells c.args.self.now.view.source.now in
     let m = c.search.index in
     let same = c.args.self.now.view.agrees in
@@ -28,8 +28,8 @@ move_hypotheses_of-assumed-requires g c =
       edge = subst (λ n. m % n < n) edges (edge_below cells ranges m below);
     }
 
-pub move_claims-conclusions-requires : goal.move_claims-conclusions-requires
-move_claims-conclusions-requires g c =
+pub move_claims-requires : goal.move_claims-requires
+move_claims-requires g c =
     let cells = g.S.Source.cells c.args.self.now.view.source.now in
     let m = c.search.index in
     let same = c.args.self.now.view.agrees in
@@ -39,7 +39,7 @@ move_claims-conclusions-requires g c =
       inside = omega (arith, ap (λ h. h.steps * h.edges) same);
       begins = record {
         rest = admission.guard_rows cells step ++ admission.edge_rows cells edge (parts.step_from cells step);
-        order = ap rows_of c.as_slice-hypotheses.ensures.value ∙ c.move_hypotheses_of-assumed.ensures ∙ ap (λ n. admission.move_hypotheses_of cells (m / n) (m % n)) (ap (λ h. h.edges) same);
+        order = ap rows_of c.as_slice-hypotheses.ensures.value ∙ c.move_hypotheses_of.ensures ∙ ap (λ n. admission.move_hypotheses_of cells (m / n) (m % n)) (ap (λ h. h.edges) same);
       };
     }
 
@@ -50,7 +50,7 @@ move_line_at-at-requires g c =
     let same = c.args.self.now.view.agrees in
     let below : m < admission.moves cells = omega (arith, ap (λ h. h.steps * h.edges) same) in
     let ranges = program_ranges cells (g.S.Source.formed c.args.self.now.view.source.now) in
-    let claims = ap rows_of c.as_slice-conclusion-items.ensures.value ∙ c.move_claims-conclusions.ensures in
+    let claims = ap rows_of c.as_slice-conclusion-items.ensures.value ∙ c.move_claims.ensures in
     record {
       place = omega (arith, move_below cells ranges m below);
       line = omega (arith, counted _ _ claims, length_move_claims cells g.K.RankKind.kind m, ranges.counts_in.region_rows_high, ranges.counts_in.rank_numbers_high);
@@ -64,8 +64,8 @@ judge-requires g c =
     let below : m < admission.moves cells = omega (arith, ap (λ h. h.steps * h.edges) same) in
     let form : (parts.head cells).form ≡ 1 = sym (ap (λ h. h.form) same) ∙ ap form_number c.requires in
     let numbers = sym (ap (λ h. h.rank_numbers) same) ∙ c.args.self.now.ranks in
-    let assumed = ap rows_of c.as_slice-hypotheses.ensures.value ∙ c.move_hypotheses_of-assumed.ensures ∙ ap (λ n. admission.move_hypotheses_of cells (m / n) (m % n)) (ap (λ h. h.edges) same) in
-    let claims = ap rows_of c.as_slice-conclusion-items.ensures.value ∙ c.move_claims-conclusions.ensures in
+    let assumed = ap rows_of c.as_slice-hypotheses.ensures.value ∙ c.move_hypotheses_of.ensures ∙ ap (λ n. admission.move_hypotheses_of cells (m / n) (m % n)) (ap (λ h. h.edges) same) in
+    let claims = ap rows_of c.as_slice-conclusion-items.ensures.value ∙ c.move_claims.ensures in
     let j = judgement (move_group cells (g.S.Source.formed c.args.self.now.view.source.now) g.K.RankKind.kind g.met.K.RankKind.lawful numbers form m below) c.as_slice-hypotheses.result.now c.as_slice-conclusion-items.result.now assumed claims c.loop-line.line c.loop-line-test.true c.move_line_at-at.ensures.value refl in
     record { inside = omega (arith, c.move_line_at-at.ensures.bounded); few = j.few; line = j.line; assumed = j.assumed; shown = j.shown }
 
@@ -77,8 +77,8 @@ loop-line-preserved g c =
     let below : m < admission.moves cells = omega (arith, ap (λ h. h.steps * h.edges) same) in
     let form : (parts.head cells).form ≡ 1 = sym (ap (λ h. h.form) same) ∙ ap form_number c.requires in
     let numbers = sym (ap (λ h. h.rank_numbers) same) ∙ c.args.self.now.ranks in
-    let assumed = ap rows_of c.as_slice-hypotheses.ensures.value ∙ c.move_hypotheses_of-assumed.ensures ∙ ap (λ n. admission.move_hypotheses_of cells (m / n) (m % n)) (ap (λ h. h.edges) same) in
-    let claims = ap rows_of c.as_slice-conclusion-items.ensures.value ∙ c.move_claims-conclusions.ensures in
+    let assumed = ap rows_of c.as_slice-hypotheses.ensures.value ∙ c.move_hypotheses_of.ensures ∙ ap (λ n. admission.move_hypotheses_of cells (m / n) (m % n)) (ap (λ h. h.edges) same) in
+    let claims = ap rows_of c.as_slice-conclusion-items.ensures.value ∙ c.move_claims.ensures in
     let j = judgement (move_group cells (g.S.Source.formed c.args.self.now.view.source.now) g.K.RankKind.kind g.met.K.RankKind.lawful numbers form m below) c.as_slice-hypotheses.result.now c.as_slice-conclusion-items.result.now assumed claims c.loop-line.line c.loop-line-test.true c.move_line_at-at.ensures.value refl in
     (c.loop-line.invariant.0, line_more cells (parts.move_line_at (parts.head cells) m) (parts.move_hypotheses (parts.head cells)) (admission.move_hypotheses_of cells (admission.move_step cells m) (admission.move_edge cells m)) (MoveLine m) (admission.move_claims cells g.K.RankKind.kind m) c.loop-line.line j.inside (sym (c.if-not-judge.ensures ∙ j.judged)) c.loop-line.invariant.1)
 
@@ -88,7 +88,7 @@ search-preserved g c =
     let m = c.search.index in
     let same = c.args.self.now.view.agrees in
     let below : m < admission.moves cells = omega (arith, ap (λ h. h.steps * h.edges) same) in
-    let claims = ap rows_of c.as_slice-conclusion-items.ensures.value ∙ c.move_claims-conclusions.ensures in
+    let claims = ap rows_of c.as_slice-conclusion-items.ensures.value ∙ c.move_claims.ensures in
     let none = lines_done cells (parts.move_line_at (parts.head cells) m) (parts.move_hypotheses (parts.head cells)) (admission.move_hypotheses_of cells (admission.move_step cells m) (admission.move_edge cells m)) (MoveLine m) (admission.move_claims cells g.K.RankKind.kind m) c.loop-line.line (omega (arith, counted _ _ claims)) c.loop-line.invariant.1 in
     (c.loop-line.invariant.0, joined_more (admission.moves cells) (admission.trials_of_move cells g.K.RankKind.kind) m below (sym (ap outcome none)) c.search.invariant.1)
 
@@ -100,8 +100,8 @@ returns-then-not-judge g c =
     let below : m < admission.moves cells = omega (arith, ap (λ h. h.steps * h.edges) same) in
     let form : (parts.head cells).form ≡ 1 = sym (ap (λ h. h.form) same) ∙ ap form_number c.requires in
     let numbers = sym (ap (λ h. h.rank_numbers) same) ∙ c.args.self.now.ranks in
-    let assumed = ap rows_of c.as_slice-hypotheses.ensures.value ∙ c.move_hypotheses_of-assumed.ensures ∙ ap (λ n. admission.move_hypotheses_of cells (m / n) (m % n)) (ap (λ h. h.edges) same) in
-    let claims = ap rows_of c.as_slice-conclusion-items.ensures.value ∙ c.move_claims-conclusions.ensures in
+    let assumed = ap rows_of c.as_slice-hypotheses.ensures.value ∙ c.move_hypotheses_of.ensures ∙ ap (λ n. admission.move_hypotheses_of cells (m / n) (m % n)) (ap (λ h. h.edges) same) in
+    let claims = ap rows_of c.as_slice-conclusion-items.ensures.value ∙ c.move_claims.ensures in
     let j = judgement (move_group cells (g.S.Source.formed c.args.self.now.view.source.now) g.K.RankKind.kind g.met.K.RankKind.lawful numbers form m below) c.as_slice-hypotheses.result.now c.as_slice-conclusion-items.result.now assumed claims c.loop-line.line c.loop-line-test.true c.move_line_at-at.ensures.value refl in
     let fault = line_fails cells (parts.move_line_at (parts.head cells) m) (parts.move_hypotheses (parts.head cells)) (admission.move_hypotheses_of cells (admission.move_step cells m) (admission.move_edge cells m)) (MoveLine m) (admission.move_claims cells g.K.RankKind.kind m) c.loop-line.line j.inside (sym (c.if-not-judge.ensures ∙ j.judged)) c.loop-line.invariant.1 in
     sym (joined_first (admission.moves cells) (admission.trials_of_move cells g.K.RankKind.kind) m (MoveLine m c.loop-line.line) below fault c.search.invariant.1)

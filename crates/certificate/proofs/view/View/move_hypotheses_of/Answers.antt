@@ -16,21 +16,21 @@ few cells p t none rows more n r m a b d =
     (omega (arith, length_point cells p), omega (arith, length_point cells p, ap length m, length-append rows (admission.guard_rows cells t), length_guards cells t))
 
 pub push_point-requires-clause-room : goal.push_point-requires-clause-room
-push_point-requires-clause-room g c = omega (arith, ap length (held_new _ c.new-table.ensures))
+push_point-requires-clause-room g c = omega (arith, ap length (held_new _ c.clear.ensures))
 
 pub push_guards-requires-clause-room : goal.push_guards-requires-clause-room
 push_guards-requires-clause-room g c =
     let cells = g.S.Source.cells c.args.self.now.source.now in
     let counts = (program_ranges cells (g.S.Source.formed c.args.self.now.source.now)).counts_in in
     let rows = held c.push_point.new.table in
-    let so_far = few cells c.first_point.result c.args.step (held c.new-table.result) rows (rows ++ admission.guard_rows cells c.args.step) (held_new _ c.new-table.ensures) c.push_point.ensures (λ _. rows ++ admission.guard_rows cells c.args.step) counts.region_rows_high counts.rank_numbers_high counts.guards_high in
+    let so_far = few cells c.first_point.result c.args.step (held c.clear.new.self) rows (rows ++ admission.guard_rows cells c.args.step) (held_new _ c.clear.ensures) c.push_point.ensures (λ _. rows ++ admission.guard_rows cells c.args.step) counts.region_rows_high counts.rank_numbers_high counts.guards_high in
     omega (arith, so_far.0)
 
 pub push_edge_rows-requires-clause-room : goal.push_edge_rows-requires-clause-room
 push_edge_rows-requires-clause-room g c =
     let cells = g.S.Source.cells c.args.self.now.source.now in
     let counts = (program_ranges cells (g.S.Source.formed c.args.self.now.source.now)).counts_in in
-    let so_far = few cells c.first_point.result c.args.step (held c.new-table.result) (held c.push_point.new.table) (held c.push_guards.new.table) (held_new _ c.new-table.ensures) c.push_point.ensures c.push_guards.ensures counts.region_rows_high counts.rank_numbers_high counts.guards_high in
+    let so_far = few cells c.first_point.result c.args.step (held c.clear.new.self) (held c.push_point.new.table) (held c.push_guards.new.table) (held_new _ c.clear.ensures) c.push_point.ensures c.push_guards.ensures counts.region_rows_high counts.rank_numbers_high counts.guards_high in
     omega (arith, so_far.1)
 
 pub returns : goal.returns
@@ -40,5 +40,5 @@ returns g c =
     let guards = admission.guard_rows cells c.args.step in
     c.push_edge_rows.ensures
     ∙ ap₂ (λ rows p. rows ++ admission.edge_rows cells c.args.edge p)
-    (c.push_guards.ensures ∙ ap (λ rows. rows ++ guards) (c.push_point.ensures ∙ ap₂ (λ rows p. rows ++ admission.point_hypotheses cells p) (held_new _ c.new-table.ensures) c.first_point.ensures.value)) c.step_from.ensures.value
+    (c.push_guards.ensures ∙ ap (λ rows. rows ++ guards) (c.push_point.ensures ∙ ap₂ (λ rows p. rows ++ admission.point_hypotheses cells p) (held_new _ c.clear.ensures) c.first_point.ensures.value)) c.step_from.ensures.value
     ∙ append_assoc points guards (admission.edge_rows cells c.args.edge (parts.step_from cells c.args.step))

@@ -23,7 +23,7 @@ use Rattle.certificate.proofs.view.View.shown_hold.Goals as goal
 pub push_start_point-requires : goal.push_start_point-requires
 push_start_point-requires g c =
     let cells = g.S.Source.cells c.args.self.now.source.now in
-    omega (arith, ap length c.start_hypotheses-table.ensures, length_each (parts.head cells).start_rows (parts.start_row cells), (program_ranges cells (g.S.Source.formed c.args.self.now.source.now)).counts_in.start_rows_high)
+    omega (arith, ap length c.start_hypotheses.ensures, length_each (parts.head cells).start_rows (parts.start_row cells), (program_ranges cells (g.S.Source.formed c.args.self.now.source.now)).counts_in.start_rows_high)
 
 -- a value as a row
 constant_wide : (z : ℤ) → Within 2147483648 z → RowWithin wide (constant_row z)
@@ -38,7 +38,7 @@ pub taken_column-requires-clause-row : goal.taken_column-requires-clause-row
 taken_column-requires-clause-row g c =
     let cells = g.S.Source.cells c.args.self.now.source.now in
     let formed = g.S.Source.formed c.args.self.now.source.now in
-    let rows = listed cells c.push_start_point.new.table c.as_slice-numbers-items.result.now c.start_hypotheses-table.result.items c.as_slice-numbers-items.ensures.value c.push_start_point.ensures c.start_hypotheses-table.ensures in
+    let rows = listed cells c.push_start_point.new.table c.as_slice-numbers-items.result.now c.start_hypotheses.new.table.items c.as_slice-numbers-items.ensures.value c.push_start_point.ensures c.start_hypotheses.ensures in
     let inside : c.loop-row.row < length (admission.shown_rows cells) = omega (arith, counted _ _ rows) in
     subst (RowWithin short) (sym (row_at _ _ rows c.loop-row.row (omega arith))) (shown_short cells (program_ranges cells formed) (start_below cells formed) c.loop-row.row inside)
 
@@ -83,7 +83,7 @@ sign_yes v w e h f = ap (le_z (pos 0)) (sym e) ∙ positive v (sym (ap (λ z. lt
 pub returns-then-taken_column-lt0 : goal.returns-then-taken_column-lt0
 returns-then-taken_column-lt0 g c =
     let cells = g.S.Source.cells c.args.self.now.source.now in
-    let rows = listed cells c.push_start_point.new.table c.as_slice-numbers-items.result.now c.start_hypotheses-table.result.items c.as_slice-numbers-items.ensures.value c.push_start_point.ensures c.start_hypotheses-table.ensures in
+    let rows = listed cells c.push_start_point.new.table c.as_slice-numbers-items.result.now c.start_hypotheses.new.table.items c.as_slice-numbers-items.ensures.value c.push_start_point.ensures c.start_hypotheses.ensures in
     let inside : c.loop-row.row < length (admission.shown_rows cells) = omega (arith, counted _ _ rows) in
     let r = get_or (admission.shown_rows cells) c.loop-row.row zero_row in
     let given = given_values cells c.shown_values-values.result.items c.as_slice.result.now c.as_slice.ensures.value c.shown_values-values.ensures.constant in
@@ -94,7 +94,7 @@ returns-then-taken_column-lt0 g c =
 pub loop-row-preserved : goal.loop-row-preserved
 loop-row-preserved g c =
     let cells = g.S.Source.cells c.args.self.now.source.now in
-    let rows = listed cells c.push_start_point.new.table c.as_slice-numbers-items.result.now c.start_hypotheses-table.result.items c.as_slice-numbers-items.ensures.value c.push_start_point.ensures c.start_hypotheses-table.ensures in
+    let rows = listed cells c.push_start_point.new.table c.as_slice-numbers-items.result.now c.start_hypotheses.new.table.items c.as_slice-numbers-items.ensures.value c.push_start_point.ensures c.start_hypotheses.ensures in
     let inside : c.loop-row.row < length (admission.shown_rows cells) = omega (arith, counted _ _ rows) in
     let r = get_or (admission.shown_rows cells) c.loop-row.row zero_row in
     let given = given_values cells c.shown_values-values.result.items c.as_slice.result.now c.as_slice.ensures.value c.shown_values-values.ensures.constant in
@@ -105,5 +105,5 @@ loop-row-preserved g c =
 pub returns : goal.returns
 returns g c =
     let cells = g.S.Source.cells c.args.self.now.source.now in
-    let rows = listed cells c.push_start_point.new.table c.as_slice-numbers-items.result.now c.start_hypotheses-table.result.items c.as_slice-numbers-items.ensures.value c.push_start_point.ensures c.start_hypotheses-table.ensures in
+    let rows = listed cells c.push_start_point.new.table c.as_slice-numbers-items.result.now c.start_hypotheses.new.table.items c.as_slice-numbers-items.ensures.value c.push_start_point.ensures c.start_hypotheses.ensures in
     sym (ap outcome (ap first_failure (rows_numbered cells 0 (admission.shown_rows cells)) ∙ done (row_trial cells) zero_row (admission.shown_rows cells) c.loop-row.row (omega (arith, counted _ _ rows)) c.loop-row.invariant))
