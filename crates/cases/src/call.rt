@@ -1,4 +1,5 @@
-// What admission is called for with: a form and a count of rank numbers. The console's call answers a wrong word by a sentence of its own.
+// What admission is called for with: a form and a count of rank numbers. The console answers a wrong word by a
+// sentence of its own; here the reader of the table takes any other count for two.
 use anyhow::bail;
 use layout::form::Form;
 use std::str::FromStr;

@@ -14,8 +14,10 @@ impl<'a, S: Source> View<'a, S> {
         requires { edge ≤ 12 }
         ensures { result ≡ runs.matches (S.cells self.now.source.now) edge letter }
     {
+        // both are read before either is compared, which lets the search be compiled for each sort of source by itself
         let must = self.must(edge);
-        letter & must == must && letter & self.must_not(edge) == 0
+        let must_not = self.must_not(edge);
+        letter & must == must && letter & must_not == 0
     }
 
     // The lowest-numbered edge from a state that matches a letter.
